@@ -1,0 +1,4 @@
+pub mod Channels
+pub mod Faults
+pub mod Of
+pub mod Makes

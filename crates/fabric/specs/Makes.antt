@@ -1,0 +1,28 @@
+-- What making a fabric answers.
+use mathlib.Core.List.{List}
+use mathlib.Core.Path.{_≡_}
+use Prim.Native.Nat.{ℕ}
+use Rattle.std.specs.declared.option.Option.the-variants.{None}
+use Rattle.std.specs.declared.result.Result.{Result}
+use Rattle.std.specs.declared.result.Result.the-variants.{Ok, Err}
+use Rattle.model.specs.Net.{netOf}
+use Rattle.model.specs.Cabling.{linkRefusal, cablingRefusal}
+use Rattle.fabric.specs.Faults.{fabricRefusal}
+use Rattle.fabric.specs.Of.{net}
+use Rattle.fabric.specs.declared.fault.FabricFault.{FabricFault}
+use Rattle.fabric.specs.declared.network.Fabric.{Fabric}
+
+-- A fabric is exactly what the bytes say, and nothing refuses them. A fault is their refusal; want of memory, which has none, comes
+-- only where nothing refuses them.
+abbrev pub Makes : ℕ → List ℕ → Result Fabric FabricFault → Type 0
+Makes n ends (Ok f) = (cablingRefusal n ends ≡ None) × (net f ≡ netOf n ends)
+Makes n ends (Err e) = fabricRefusal e ≡ cablingRefusal n ends
+
+-- The tests alone: passed where nothing is refused, else the refusal.
+abbrev pub Judges : ℕ → List ℕ → Result (Unit {0}) FabricFault → Type 0
+Judges n ends (Ok _) = cablingRefusal n ends ≡ None
+Judges n ends (Err e) = fabricRefusal e ≡ cablingRefusal n ends
+
+abbrev pub JudgesLinks : ℕ → List ℕ → Result (Unit {0}) FabricFault → Type 0
+JudgesLinks n ends (Ok _) = linkRefusal n 0 ends ≡ None
+JudgesLinks n ends (Err e) = fabricRefusal e ≡ linkRefusal n 0 ends

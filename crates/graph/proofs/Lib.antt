@@ -1,0 +1,3 @@
+mod Relaxing
+mod Growing
+mod Spreading

@@ -1,0 +1,11 @@
+pub mod Members
+pub mod Walking
+pub mod Dependencies
+pub mod Arriving
+pub mod RoutesOnce
+pub mod Ordering
+pub mod Holding
+pub mod Cycles
+pub mod Judging
+pub mod RoundRing
+pub mod LinkTests

@@ -1,0 +1,81 @@
+-- Laws of orders, cycles, routes and holds, and that the places of posts change no answer.
+use mathlib.Core.Path.{_≡_}
+use mathlib.Core.Logic.{_⊎_}
+use mathlib.Core.Bool.{Bool, true, false}
+use mathlib.Core.List.{List, [], _∷_, _++_, map}
+use Prim.Native.Nat.{ℕ, _<_, _≤_}
+use lib.ListN.{length}
+use Rattle.model.specs.Lists.{isIn, different}
+use Rattle.model.specs.Net.{count, startOf, finishOf, isPair}
+use Rattle.model.specs.Positions.{positionCount}
+use Rattle.model.specs.Rules.{Setup}
+use Rattle.model.specs.Routes.{Edge, has, route, laneDeps, depends, isCycle}
+use Rattle.model.specs.Order.{orderOf, completes, laneOrder}
+use Rattle.model.specs.Verdicts.{Accepts, verdict, fine, cyclic}
+use Rattle.model.specs.Waits.{turnCost, hold}
+use Rattle.model.specs.Packets.{bare, Call, said}
+use Rattle.model.specs.State.{each}
+use Rattle.model.specs.Run.{step}
+use Rattle.model.specs.History.{stateAfter, reply}
+
+-- The verdict is yes exactly when the setup is accepted.
+abbrev pub Verdict-exact : Type 0
+Verdict-exact = (g : Setup) → (verdict g ≡ fine → Accepts g) × (Accepts g → verdict g ≡ fine)
+
+-- Lane ℓ has a cycle.
+abbrev pub HasCycle : Setup → ℕ → Type 0
+HasCycle g ℓ = (cs : List ℕ) × (isCycle (depends (g .net) (g .rule) ℓ) cs ≡ true)
+
+-- A cycle verdict's lane is the lowest with a cycle.
+abbrev pub Cyclic-lowest : Type 0
+Cyclic-lowest = (g : Setup) (ℓ : ℕ) → verdict g ≡ cyclic ℓ → (ℓ < g .lanes) × HasCycle g ℓ × ((m : ℕ) → m < ℓ → HasCycle g m → ⊥)
+
+-- An order of n channels that is complete: it holds every channel once, and no dependency runs backward in it.
+pub record Ordered (n : ℕ) (es : List Edge) (order : List ℕ) : Type 0 where
+  pub size : length order ≡ n
+  pub once : different order ≡ true
+  pub inside : (c : ℕ) → isIn c order ≡ true → c < n
+  pub all : (c : ℕ) → c < n → isIn c order ≡ true
+  pub forward : (xs ys : List ℕ) (b c : ℕ) → order ≡ xs ++ (c ∷ ys) → has es b c ≡ true → b < n → isIn b xs ≡ true
+
+abbrev pub Order-exact : Type 0
+Order-exact = (n : ℕ) (es : List Edge) → completes n es ≡ true → Ordered n es (orderOf n es)
+
+-- Every dependency is between channels below n, and none leads back to its own channel.
+pub record Loopless (n : ℕ) (es : List Edge) : Type 0 where
+  pub inside : (b c : ℕ) → has es b c ≡ true → (b < n) × (c < n)
+  pub apart : (c : ℕ) → has es c c ≡ false
+
+-- There is a cycle exactly when the order cannot be completed.
+abbrev pub Cycle-exact : Type 0
+Cycle-exact = (n : ℕ) (es : List Edge) → Loopless n es
+    → (completes n es ≡ true → (cs : List ℕ) → isCycle (has es) cs ≡ true → ⊥)
+    × (completes n es ≡ false → (cs : List ℕ) × (isCycle (has es) cs ≡ true))
+
+-- On an accepted setup the switches of a route all differ, and so do its channels.
+abbrev pub Route-once : Type 0
+Route-once = (g : Setup) → Accepts g → (s d : ℕ) → isPair (g .net .switches) s d ≡ true
+    → (different (s ∷ map (finishOf (g .net)) (route (g .net) (g .rule) s d)) ≡ true)
+    × (different (route (g .net) (g .rule) s d) ≡ true)
+
+-- On an accepted setup a route never returns to the switch it just came from.
+abbrev pub Route-onward : Type 0
+Route-onward = (g : Setup) → Accepts g → (s d : ℕ) → isPair (g .net .switches) s d ≡ true
+    → (xs ys : List ℕ) (b c : ℕ) → route (g .net) (g .rule) s d ≡ xs ++ (b ∷ (c ∷ ys)) → finishOf (g .net) c ≡ startOf (g .net) b → ⊥
+
+-- The hold is the largest of 1 and the turn costs of the dependencies: at least 1, at least each of them, and one of these.
+pub record Held (g : Setup) (ℓ c : ℕ) : Type 0 where
+  pub one : 1 ≤ hold g ℓ c
+  pub each : (c′ : ℕ) → depends (g .net) (g .rule) ℓ c c′ ≡ true → turnCost (positionCount (g .net) c′) (hold g ℓ c′) ≤ hold g ℓ c
+  pub least : (hold g ℓ c ≡ 1)
+      ⊎ ((c′ : ℕ) × (depends (g .net) (g .rule) ℓ c c′ ≡ true) × (hold g ℓ c ≡ turnCost (positionCount (g .net) c′) (hold g ℓ c′)))
+
+abbrev pub Hold-exact : Type 0
+Hold-exact = (g : Setup) → Accepts g → (ℓ c : ℕ) → ℓ < g .lanes → c < count (g .net) → Held g ℓ c
+
+-- Leaving the places of the posts out changes no answer: the rules over bare packets, fed what the reference run shows, show
+-- what it shows next and answer as it does.
+abbrev pub Places-unseen : Type 0
+Places-unseen = (g : Setup) (h : List Call) (c : Call)
+    → let next = step (λ p. p) (λ p. p) g (each bare (stateAfter g h)) c in
+    (next .state ≡ each bare (stateAfter g (h ++ c ∷ []))) × (said (λ p. p) (next .event) ≡ reply g h c)

@@ -1,0 +1,25 @@
+ghost use Rattle.planfile.specs.Contents.{Taken};
+
+// An entry of the contents: what a body is, where it begins and how long it is.
+#[derive(Clone, Copy, PartialEq, Eq, Debug)]
+pub struct Entry {
+    pub tag: [u8; 4],
+    pub offset: u16,
+    pub length: u16,
+}
+
+impl Entry {
+    // Takes the eight bytes of an entry apart; none for any other count of bytes.
+    pub fn read(bytes: &[u8]) -> Option<Entry>
+        ensures { λ r. ⌜ Taken (now (bytes .entry)) r ⌝ }
+    {
+        match bytes {
+            [t0, t1, t2, t3, o0, o1, l0, l1] => Some(Entry {
+                tag: [*t0, *t1, *t2, *t3],
+                offset: *o0 as u16 * 256 + *o1 as u16,
+                length: *l0 as u16 * 256 + *l1 as u16,
+            }),
+            _ => None,
+        }
+    }
+}
