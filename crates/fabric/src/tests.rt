@@ -32,9 +32,18 @@ fn parallel(ends: &mut [u8]) {
 fn switch_counts(rt: LibcRuntime) -> Result<(), Fail> {
     check_eq(fault(rt.alloc(), 2, &[0, 1]), None)?;
     check_eq(fault(rt.alloc(), 32, &[0, 31]), None)?;
-    check_eq(fault(rt.alloc(), 1, &[0, 1]), Some(FabricFault::SwitchCount))?;
-    check_eq(fault(rt.alloc(), 33, &[0, 1]), Some(FabricFault::SwitchCount))?;
-    check_eq(fault(rt.alloc(), 4_294_967_295, &[]), Some(FabricFault::SwitchCount))
+    check_eq(
+        fault(rt.alloc(), 1, &[0, 1]),
+        Some(FabricFault::SwitchCount),
+    )?;
+    check_eq(
+        fault(rt.alloc(), 33, &[0, 1]),
+        Some(FabricFault::SwitchCount),
+    )?;
+    check_eq(
+        fault(rt.alloc(), 4_294_967_295, &[]),
+        Some(FabricFault::SwitchCount),
+    )
 }
 
 #[test]
@@ -51,10 +60,22 @@ fn end_lists(rt: LibcRuntime) -> Result<(), Fail> {
 
 #[test]
 fn links(rt: LibcRuntime) -> Result<(), Fail> {
-    check_eq(fault(rt.alloc(), 4, &[0, 1, 1, 4]), Some(FabricFault::MissingEnd(1)))?;
-    check_eq(fault(rt.alloc(), 4, &[0, 1, 1, 2, 3, 3]), Some(FabricFault::EqualEnds(2)))?;
-    check_eq(fault(rt.alloc(), 4, &[1, 1, 0, 9]), Some(FabricFault::EqualEnds(0)))?;
-    check_eq(fault(rt.alloc(), 4, &[9, 9]), Some(FabricFault::MissingEnd(0)))
+    check_eq(
+        fault(rt.alloc(), 4, &[0, 1, 1, 4]),
+        Some(FabricFault::MissingEnd(1)),
+    )?;
+    check_eq(
+        fault(rt.alloc(), 4, &[0, 1, 1, 2, 3, 3]),
+        Some(FabricFault::EqualEnds(2)),
+    )?;
+    check_eq(
+        fault(rt.alloc(), 4, &[1, 1, 0, 9]),
+        Some(FabricFault::EqualEnds(0)),
+    )?;
+    check_eq(
+        fault(rt.alloc(), 4, &[9, 9]),
+        Some(FabricFault::MissingEnd(0)),
+    )
 }
 
 #[test]
@@ -62,7 +83,13 @@ fn ring_of_four(rt: LibcRuntime) -> Result<(), Fail> {
     let ring = Fabric::new(rt.alloc(), 4, &[0, 1, 1, 2, 2, 3, 3, 0])?;
     check_eq(ring.switch_count(), 4)?;
     check_eq(ring.channel_count(), 8)?;
-    check_eq(ring.channel(7), Some(Channel { start: 0, finish: 3 }))?;
+    check_eq(
+        ring.channel(7),
+        Some(Channel {
+            start: 0,
+            finish: 3,
+        }),
+    )?;
     check_eq(ring.channel(8), None)?;
     check_eq(hops(&ring, 0, 2), Some(2))?;
     check_eq(hops(&ring, 3, 0), Some(1))?;

@@ -9,3 +9,16 @@ pub mod Cycles
 pub mod Judging
 pub mod RoundRing
 pub mod LinkTests
+pub mod Contents
+pub mod Histories
+pub mod Unseen
+pub mod Turning
+pub mod Feeding
+pub mod Doing
+pub mod Timing
+pub mod Fitting
+pub mod Lining
+pub mod Waiting
+pub mod Moving
+pub mod Delivering
+pub mod Promising

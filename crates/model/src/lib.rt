@@ -3,3 +3,4 @@
 pub mod cabling;
 pub mod examples;
 pub mod laws;
+pub mod promise;
