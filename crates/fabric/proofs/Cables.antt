@@ -7,16 +7,16 @@ use Prim.Native.Nat.{ℕ, zero, suc, _+_, _-_, _*_, _/_, _%_, _<_, _≤_}
 use native.Mathlib.Omega.{arith}
 use lib.Dec.{eqb, leb, ltb}
 use lib.ListN.{length, getD, drop, length-drop}
-use Rattle.std.proofs.shelf.Lists.{drop-more, drop-all, append-assoc, append-nil, map-append}
+use Rattle.std.proofs.shelf.Lists.{drop-more, append-assoc, append-nil, map-append}
 use Rattle.std.proofs.shelf.Tests.{or-parts, or-right, leb-false, le-leb, lt-leb, eqb-false, eq-eqb, ne-eqb, cond-true}
 use Rattle.std.specs.declared.option.Option.{Option}
 use Rattle.std.specs.declared.option.Option.the-variants.{Some, None}
-use Rattle.model.specs.Net.{Channel, channelsOf, nowhere}
+use Rattle.model.specs.Net.{Channel, channelsOf}
 use Rattle.model.specs.Refusals.{Refusal}
 use Rattle.model.specs.Cabling.{linkRefusal, cablingRefusal, badSwitchCount, badEndList, missingEnd, equalEnds, Cabled, Refused}
 use Rattle.model.proofs.LinkTests.{cabling-exact}
 use Rattle.std.specs.Options.{Cases}
-use Rattle.fabric.specs.Channels.{plain, Inside, Sits}
+use Rattle.fabric.specs.Channels.{plain, Inside}
 use Rattle.fabric.specs.declared.channel.Channel.{Channel as CodeChannel}
 
 -- the ends from link i on

@@ -1,14 +1,13 @@
 use Prim.Native.Nat.{ℕ, zero, suc, _+_, _<_, _≤_}
 use mathlib.Core.Path.{_≡_, refl, sym, ap, _∙_, subst}
-use mathlib.Core.Bool.{Bool, true, false, cond, _&&_}
+use mathlib.Core.Bool.{Bool, true, false}
 use mathlib.Core.Logic.{_⊎_, inl, inr, ⊎-elim, _≢_}
-use mathlib.Core.List.{List, [], _∷_}
+use mathlib.Core.List.{List}
 use native.Mathlib.Omega.{arith}
-use lib.Dec.{eqb, ltb}
 use lib.ListN.{getD, length, set, length-set, replicate, getD-replicate}
 use lib.Seq.{getD-set-same, getD-set-other}
 use Rattle.std.proofs.shelf.Tests.{eq-eqb, ne-eqb, lt-ltb, le-ltb, cases-order, cases-lt, false≢true, true≢false}
-use Rattle.graph.specs.Rounds.{relaxed, unreached, Relaxed, Grown}
+use Rattle.graph.specs.Rounds.{relaxed, unreached, Relaxed}
 
 pub same-or-not : (a b : ℕ) → (a ≡ b) ⊎ (a ≢ b)
 same-or-not a b = ⊎-elim inl (λ h. inr (⊎-elim (λ (k : a < b) (q : a ≡ b). omega arith) (λ (k : b < a) (q : a ≡ b). omega arith) h)) (cases-order a b)

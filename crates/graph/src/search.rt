@@ -1,5 +1,5 @@
 ghost use mathlib.Core.Path.{_≡_};
-ghost use Prim.Native.Nat.{ℕ, _<_, _≤_};
+ghost use Prim.Native.Nat.{ℕ, _<_};
 ghost use lib.ListN.{replicate};
 ghost use Rattle.model.specs.Walks.{Fewest};
 ghost use Rattle.graph.specs.Distances.{Row, hopsTo};

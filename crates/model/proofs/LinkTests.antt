@@ -12,7 +12,7 @@ use Rattle.std.specs.Options.{Cases}
 use Rattle.std.specs.declared.option.Option.{Option}
 use Rattle.std.specs.declared.option.Option.the-variants.{None, Some}
 use Rattle.model.specs.Refusals.{Refusal}
-use Rattle.model.specs.Cabling.{badSwitchCount, badEndList, missingEnd, equalEnds, linkRefusal, cablingRefusal, Joins, Counted, Cabled, FirstAtFault, Refused, switches, list, missing, equal, Cabling-exact}
+use Rattle.model.specs.Cabling.{badSwitchCount, badEndList, missingEnd, equalEnds, linkRefusal, Joins, Counted, Cabled, FirstAtFault, Refused, switches, list, missing, equal, Cabling-exact}
 
 abbrev AllJoin : ℕ → List ℕ → ℕ → Type 0
 AllJoin n ends k = (j : ℕ) → j < k → Joins n ends j

@@ -1,20 +1,20 @@
 -- Worked examples.
 use mathlib.Core.Path.{_≡_}
-use mathlib.Core.Bool.{Bool, true}
+use mathlib.Core.Bool.{true}
 use mathlib.Core.Logic.{_⊎_}
 use mathlib.Core.List.{List, [], _∷_}
 use Prim.Native.Nat.{ℕ, _+_, _%_}
 use Rattle.std.specs.declared.option.Option.the-variants.{None, Some}
 use Rattle.model.specs.Lists.{below, joined}
 use Rattle.model.specs.Net.{Net, netOf}
-use Rattle.model.specs.Refusals.{refuse, topologyLayer, callLayer}
-use Rattle.model.specs.Rules.{Rule, Setup, tableRule, gridNet, gridRule}
+use Rattle.model.specs.Refusals.{refuse, topologyLayer}
+use Rattle.model.specs.Rules.{Setup, tableRule, gridNet, gridRule}
 use Rattle.model.specs.Routes.{route, depends, isCycle}
 use Rattle.model.specs.Order.{laneOrder}
 use Rattle.model.specs.Verdicts.{Accepts, verdict, cyclic}
 use Rattle.model.specs.Waits.{patience}
 use Rattle.model.specs.Planner.{planned, tables, refused}
-use Rattle.model.specs.Packets.{Request, make, look, lookSender, post, serve, saysTaken, saysDelivered, saysMoved, saysWaits, saysIdle, saysHolds, saysRefused}
+use Rattle.model.specs.Packets.{make, look, lookSender, post, serve, saysTaken, saysDelivered, saysMoved, saysWaits, saysIdle, saysHolds, saysRefused}
 use Rattle.model.specs.Run.{senderTaken}
 use Rattle.model.specs.History.{replies}
 

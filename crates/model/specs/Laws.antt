@@ -1,7 +1,7 @@
 -- Laws of orders, cycles, routes and holds, and that the places of posts change no answer.
 use mathlib.Core.Path.{_≡_}
 use mathlib.Core.Logic.{_⊎_}
-use mathlib.Core.Bool.{Bool, true, false}
+use mathlib.Core.Bool.{true, false}
 use mathlib.Core.List.{List, [], _∷_, _++_, map}
 use Prim.Native.Nat.{ℕ, _<_, _≤_}
 use lib.ListN.{length}
@@ -9,8 +9,8 @@ use Rattle.model.specs.Lists.{isIn, different}
 use Rattle.model.specs.Net.{count, startOf, finishOf, isPair}
 use Rattle.model.specs.Positions.{positionCount}
 use Rattle.model.specs.Rules.{Setup}
-use Rattle.model.specs.Routes.{Edge, has, route, laneDeps, depends, isCycle}
-use Rattle.model.specs.Order.{orderOf, completes, laneOrder}
+use Rattle.model.specs.Routes.{Edge, has, route, depends, isCycle}
+use Rattle.model.specs.Order.{orderOf, completes}
 use Rattle.model.specs.Verdicts.{Accepts, verdict, fine, cyclic}
 use Rattle.model.specs.Waits.{turnCost, hold}
 use Rattle.model.specs.Packets.{bare, Call, said}

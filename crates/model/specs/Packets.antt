@@ -1,5 +1,4 @@
 -- What is posted, called and answered.
-use mathlib.Core.List.{List}
 use Prim.Native.Nat.{ℕ}
 use Rattle.std.specs.declared.option.Option.{Option}
 use Rattle.model.specs.Refusals.{Refusal}

@@ -1,12 +1,12 @@
 -- The rules of a run: what a post and a serve do.
-use mathlib.Core.Bool.{Bool, true, false, cond, not, _&&_}
-use mathlib.Core.List.{List, [], _∷_}
+use mathlib.Core.Bool.{Bool, false, cond, not, _&&_}
+use mathlib.Core.List.{[], _∷_}
 use Prim.Native.Nat.{ℕ, zero, suc, _+_}
 use lib.Dec.{eqb, ltb}
 use Rattle.std.specs.Options.{mapped}
 use Rattle.std.specs.declared.option.Option.{Option}
 use Rattle.std.specs.declared.option.Option.the-variants.{Some, None}
-use Rattle.model.specs.Net.{Net, count, startOf, finishOf, isPair}
+use Rattle.model.specs.Net.{count, startOf, finishOf, isPair}
 use Rattle.model.specs.Positions.{Position, sender, over, positionCount, positionAt}
 use Rattle.model.specs.Refusals.{Refusal, refuse, callLayer, ruleLayer}
 use Rattle.model.specs.Rules.{Setup}

@@ -1,11 +1,11 @@
 -- Hold and patience: how many rounds a packet may have to wait. A channel c has k c positions; es are the lane's dependencies.
-use mathlib.Core.Bool.{Bool, true, false}
+use mathlib.Core.Bool.{true, false}
 use mathlib.Core.List.{List, [], _∷_}
 use Prim.Native.Nat.{ℕ, zero, suc, _+_, _*_, max}
 use lib.Dec.{eqb}
-use Rattle.model.specs.Net.{Net, count}
+use Rattle.model.specs.Net.{count}
 use Rattle.model.specs.Positions.{positionCount}
-use Rattle.model.specs.Rules.{Rule, Setup}
+use Rattle.model.specs.Rules.{Setup}
 use Rattle.model.specs.Routes.{Edge, laneDeps, route}
 
 -- What it costs to get one's turn at a slot of k positions and hold h.

@@ -1,6 +1,4 @@
-use borrow.Author.Needs.{needs}
 use native.Mathlib.Omega.{arith}
-use mathlib.Core.Path.{_≡_, sym, _∙_}
 use Prim.Native.Nat.{_<_, _≤_}
 use Rattle.graph.proofs.Growing.{skip, row}
 use Rattle.graph.proofs.search.advance.Needs as need

@@ -1,6 +1,5 @@
-use mathlib.Core.Path.{_≡_, refl}
+use mathlib.Core.Path.{refl}
 use native.Mathlib.Omega.{arith}
-use Rattle.planfile.specs.Contents.{EntryFrom}
 use Rattle.planfile.proofs.Entries.{entry-part}
 use Rattle.planfile.proofs.contents.contents_of.Needs as need
 

@@ -1,11 +1,10 @@
 use mathlib.Core.Path.{_≡_, refl, sym, ap, _∙_}
-use mathlib.Core.List.{List, []}
-use Prim.Native.Nat.{ℕ, _+_, _<_, _≤_}
+use mathlib.Core.List.{List}
+use Prim.Native.Nat.{ℕ, _<_}
 use native.Mathlib.Omega.{arith}
 use lib.ListN.{length}
 use Rattle.std.specs.Of.Vec.{vec-items}
 use Rattle.model.specs.Net.{startOf}
-use Rattle.model.specs.Positions.{positions, positionCount}
 use Rattle.fabric.specs.Of.{net}
 use Rattle.fabric.specs.declared.channel.Channel.{Channel}
 use Rattle.fabric.specs.declared.network.Fabric.{Fabric}

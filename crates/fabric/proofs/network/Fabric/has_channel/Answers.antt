@@ -1,6 +1,5 @@
 use mathlib.Core.List.{List, map}
-use mathlib.Core.Path.{_≡_, sym, ap, _∙_}
-use Rattle.std.specs.Of.Vec.{vec-items}
+use mathlib.Core.Path.{sym, ap, _∙_}
 use Rattle.model.specs.Lists.{anyOf}
 use Rattle.fabric.specs.Channels.{plain}
 use Rattle.fabric.specs.declared.channel.Channel.{Channel}

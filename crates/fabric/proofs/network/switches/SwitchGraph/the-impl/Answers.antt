@@ -1,4 +1,3 @@
-use Rattle.model.specs.Net.{joins}
 use Rattle.fabric.specs.Of.{net}
 use Rattle.fabric.proofs.Joining.{loopless}
 use Rattle.fabric.proofs.network.switches.SwitchGraph.the-impl.Needs as need
