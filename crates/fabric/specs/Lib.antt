@@ -1,4 +1,5 @@
 pub mod Channels
 pub mod Faults
+pub mod Grids
 pub mod Of
 pub mod Makes

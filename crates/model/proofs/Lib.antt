@@ -7,6 +7,7 @@ pub mod Ordering
 pub mod Holding
 pub mod Cycles
 pub mod Judging
+pub mod PlannerHops
 pub mod RoundRing
 pub mod LinkTests
 pub mod Contents

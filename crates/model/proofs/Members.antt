@@ -6,10 +6,10 @@ use mathlib.Core.List.{List, [], _∷_, _++_, map}
 use Prim.Native.Nat.{ℕ, zero, suc, _+_, _≤_, _<_}
 use native.Mathlib.Omega.{arith}
 use lib.Dec.{eqb, ltb}
-use lib.ListN.{length}
+use lib.ListN.{length, getD}
 use Rattle.std.specs.declared.option.Option.{Option}
 use Rattle.std.specs.declared.option.Option.the-variants.{None, Some}
-use Rattle.std.proofs.shelf.Tests.{and-parts, and-from, and-cases, or-cases, or-left, or-right, eqb-true, eqb-false, eq-eqb, lt-ltb, both-ways, false≢true, not-true, not-from-false, cases-bool}
+use Rattle.std.proofs.shelf.Tests.{and-parts, and-from, and-cases, or-cases, or-left, or-right, eqb-true, eqb-false, eq-eqb, lt-ltb, both-ways, false≢true, not-true, not-from-false, cases-bool, cases-eq}
 use Rattle.model.specs.Lists.{upFrom, below, anyOf, allOf, first, isIn, keep, joined, without, isEmpty, different}
 
 -- Options.
@@ -91,6 +91,16 @@ any-map g f m (x ∷ xs) h t =
     elim (or-cases (m x) (anyOf m xs) h) [
       | inl e ↦ or-left (g (f x)) (anyOf g (map f xs)) (t x e)
       | inr e ↦ or-right (g (f x)) (anyOf g (map f xs)) (any-map g f m xs e t)
+    ]
+
+-- One that passes has a place.
+pub any-at : {A : Type 0} (d : A) (f : A → Bool) (xs : List A) → anyOf f xs ≡ true
+    → (i : ℕ) × (i < length xs) × (f (getD xs i d) ≡ true) × ((g : A → Bool) → g (getD xs i d) ≡ true → anyOf g xs ≡ true)
+any-at d f [] h = absurd (false≢true h)
+any-at d f (x ∷ xs) h =
+    elim (or-cases (f x) (anyOf f xs) h) [
+      | inl e ↦ (zero, omega arith, e, λ g q. or-left (g x) (anyOf g xs) q)
+      | inr e ↦ let r = any-at d f xs e in (suc (r .0), omega arith, r .2, λ g q. or-right (g x) (anyOf g xs) (r .3 g q))
     ]
 
 -- Every element passes.
@@ -178,6 +188,15 @@ first-none f (y ∷ ys) e x i = go (first-none f ys) (f y) refl e
         → (b : Bool) → f y ≡ b → cond b (Some y) (first f ys) ≡ None → f x ≡ false
     go ih true q e′ = none-some y (sym e′)
     go ih false q e′ = elim (isIn-cases x y ys i) [ inl k ↦ subst (λ (z : ℕ). f z ≡ false) (sym k) q | inr k ↦ ih e′ x k ]
+
+pub first-before : (f : ℕ → Bool) (k i x : ℕ) → first f (upFrom k i) ≡ Some x → (j : ℕ) → i ≤ j → j < x → f j ≡ false
+first-before f zero i x e j lo hi = none-some x e
+first-before f (suc k) i x e j lo hi = go (first-before f k (suc i) x) (f i) refl e
+  where
+    go : (first f (upFrom k (suc i)) ≡ Some x → (j : ℕ) → suc i ≤ j → j < x → f j ≡ false)
+        → (b : Bool) → f i ≡ b → cond b (Some i) (first f (upFrom k (suc i))) ≡ Some x → f j ≡ false
+    go ih true q e′ = let w = Some-inj i x e′ in absurd (omega arith)
+    go ih false q e′ = elim (cases-eq i j) [ inl w ↦ subst (λ (z : ℕ). f z ≡ false) w q | inr ne ↦ ih e′ j (omega arith) hi ]
 
 -- The numbers from i on, and those below n.
 pub isIn-upFrom : (k i x : ℕ) → i ≤ x → x < i + k → isIn x (upFrom k i) ≡ true

@@ -1,0 +1,5 @@
+pub mod Cells
+pub mod Sides
+pub mod Joining
+pub mod GridLinks
+pub mod Walking
