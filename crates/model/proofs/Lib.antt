@@ -23,3 +23,12 @@ pub mod Waiting
 pub mod Moving
 pub mod Delivering
 pub mod Promising
+pub mod EdgeSets
+pub mod PairPlaces
+pub mod PairsLeft
+pub mod Squares
+pub mod NearerRoutes
+pub mod FilingPairs
+pub mod SameHops
+pub mod FiledLanes
+pub mod Planning

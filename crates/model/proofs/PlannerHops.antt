@@ -66,7 +66,7 @@ module _ (e : ℕ → ℕ → Bool) (n a : ℕ) where
       (s .0, omega arith, s .2)
 
 -- A walk with one more edge at its start.
-walk-after : (e : ℕ → ℕ → Bool) (n u v : ℕ) → u < n → e u v ≡ true → (j b : ℕ) → Walk e n v j b → Walk e n u (suc j) b
+pub walk-after : (e : ℕ → ℕ → Bool) (n u v : ℕ) → u < n → e u v ≡ true → (j b : ℕ) → Walk e n v j b → Walk e n u (suc j) b
 walk-after e n u v l h zero b w = (u, l, refl, subst (λ (z : ℕ). e u z ≡ true) w h)
 walk-after e n u v l h (suc j) b (m, q, w, g) = (m, q, walk-after e n u v l h j m w, g)
 

@@ -15,5 +15,6 @@ pub mod State
 pub mod Run
 pub mod History
 pub mod Promise
+pub mod Plans
 pub mod Laws
 pub mod Examples

@@ -3,4 +3,5 @@
 pub mod cabling;
 pub mod examples;
 pub mod laws;
+pub mod plans;
 pub mod promise;

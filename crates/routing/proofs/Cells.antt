@@ -12,7 +12,7 @@ use Rattle.std.proofs.shelf.Tests.{and-parts, ltb-true, lt-ltb, ne-eqb, cond-tr
 use Rattle.std.specs.declared.option.Option.{Option}
 use Rattle.std.specs.declared.option.Option.the-variants.{None}
 use Rattle.model.specs.Net.{isPair}
-use Rattle.model.specs.Rules.{Rule, channelByte, tableRule}
+use Rattle.model.specs.Rules.{channelByte, tableRule}
 
 -- a pair is two different switches below n
 pair : (n s d : ℕ) → s < n → d < n → (s ≡ d → ⊥) → isPair n s d ≡ true

@@ -1,10 +1,10 @@
 -- What a list holds so far, and what is still to be joined to it.
-use mathlib.Core.List.{List, [], _∷_, _++_}
-use mathlib.Core.Path.{_≡_, refl, sym, ap, _∙_}
-use Prim.Native.Nat.{ℕ, suc, _+_, _-_, _<_, _≤_}
+use mathlib.Core.List.{List, _++_}
+use mathlib.Core.Path.{_≡_, sym, ap, _∙_}
+use Prim.Native.Nat.{ℕ, suc, _+_, _-_, _<_}
 use native.Mathlib.Numerals.{add-one}
 use native.Mathlib.Omega.{arith}
-use Rattle.std.proofs.shelf.Lists.{append-assoc, append-nil}
+use Rattle.std.proofs.shelf.Lists.{append-assoc}
 use Rattle.model.specs.Lists.{upFrom, joined}
 
 -- one list more
@@ -16,9 +16,3 @@ join-more f n i all xs ys h e q =
     let m : joined f (upFrom (n - i) i) ≡ f i ++ rest =
     ap (λ (k : ℕ). joined f (upFrom k i)) s ∙ ap (λ (k : ℕ). f i ++ joined f (upFrom (n - (i + 1)) k)) (sym (add-one i)) in
     q ∙ ap (λ (zs : List ℕ). xs ++ zs) m ∙ sym (append-assoc xs (f i) rest) ∙ ap (λ (zs : List ℕ). zs ++ rest) (sym e)
-
--- none left
-pub join-end : (f : ℕ → List ℕ) (n i : ℕ) (all xs : List ℕ) → n ≤ i → all ≡ xs ++ joined f (upFrom (n - i) i) → xs ≡ all
-join-end f n i all xs h q =
-    let z : n - i ≡ 0 = omega arith in
-    sym (q ∙ ap (λ (k : ℕ). xs ++ joined f (upFrom k i)) z ∙ append-nil xs)

@@ -10,12 +10,15 @@ use Rattle.fabric.specs.Grids.{IsGrid}
 pub short-sides : (w h : ℕ) → IsGrid w h → (w ≤ 32) × (h ≤ 32)
 short-sides w h (a, b, c, d) = (omega (arith, mul-le w 1 w h (omega arith) b), omega (arith, mul-le 1 h w h a (omega arith)))
 
--- how far the links of the rows go
-pub row-links : (w h x y : ℕ) → IsGrid w h → x < w → y < h → (y * (w - 1) ≤ y * w) × (y * w + x < w * h)
-row-links w h x y g a b = (mul-le y (w - 1) y w (omega arith) (omega arith), mul-add-lt y w x h b a)
+-- how far the links go: those of row y up to column x, those of all rows, and those of the columns down to (x, y)
+pub row-links : (w h x y : ℕ) → IsGrid w h → x < w → y < h → y * (w - 1) + x < 32
+row-links w h x y g a b = omega (arith, g .3, mul-le y (w - 1) y w (omega arith) (omega arith), mul-add-lt y w x h b a)
 
-pub all-rows : (w h : ℕ) → h * (w - 1) ≤ w * h
-all-rows w h = omega (arith, mul-le h (w - 1) h w (omega arith) (omega arith))
+pub all-rows : (w h : ℕ) → IsGrid w h → h * (w - 1) ≤ 32
+all-rows w h g = omega (arith, g .3, mul-le h (w - 1) h w (omega arith) (omega arith))
+
+pub column-links : (w h x y : ℕ) → IsGrid w h → x < w → y < h → y * w + x < 32
+column-links w h x y g a b = omega (arith, g .3, mul-add-lt y w x h b a)
 
 -- where a switch stands
 pub column-of : (w h u : ℕ) → IsGrid w h → u % w < w
