@@ -1,0 +1,9 @@
+pub mod Stepping
+pub mod Listing
+pub mod Adding
+pub mod Apart
+pub mod Sorting
+pub mod Circling
+pub mod Faulting
+pub mod Laning
+pub mod Settling

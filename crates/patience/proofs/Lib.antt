@@ -1,0 +1,4 @@
+pub mod Capping
+pub mod HoldRows
+pub mod Costs
+pub mod Telling

@@ -1,0 +1,4 @@
+pub mod Boards
+pub mod Finding
+pub mod Keeping
+pub mod Replaying

@@ -1,0 +1,4 @@
+pub mod Words
+pub mod View
+pub mod Sites
+pub mod Runs
