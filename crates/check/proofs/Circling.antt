@@ -1,9 +1,9 @@
 -- The way back that closes a cycle.
 use mathlib.Core.Path.{_≡_, refl, sym, ap, subst, _∙_}
-use mathlib.Core.Logic.{_⊎_, inl, inr}
+use mathlib.Core.Logic.{inl, inr}
 use mathlib.Core.Bool.{Bool, true, false, _&&_}
 use mathlib.Core.List.{List, [], _∷_, _++_}
-use Prim.Native.Nat.{ℕ, zero, suc, _+_, _-_, _<_, _≤_}
+use Prim.Native.Nat.{ℕ, zero, suc, _+_, _<_}
 use native.Mathlib.Omega.{arith}
 use lib.Dec.{leb}
 use lib.ListN.{length, getD, set, take, drop}
@@ -13,11 +13,10 @@ use Rattle.std.proofs.shelf.Lists.{append-assoc, take-append-drop, set-at, take
 use Rattle.std.proofs.shelf.Tests.{and-parts, and-from, both-ways, false≢true, le-leb}
 use Rattle.model.specs.Lists.{isIn, different}
 use Rattle.model.specs.Walks.{Walk, Fewest}
-use Rattle.model.specs.Routes.{chained, closed, isCycle}
-use Rattle.model.proofs.Members.{none-some, option-cases, isIn-cases, different-more}
+use Rattle.model.specs.Routes.{chained, isCycle}
+use Rattle.model.proofs.Members.{option-cases, isIn-cases, different-more}
 use Rattle.graph.specs.Distances.{hopsTo}
 use Rattle.graph.specs.declared.search.Distances.{Distances}
-use Rattle.check.specs.declared.lane.cycle.Last.{Last}
 use Rattle.check.specs.Circles.{Before, Closes, Open, Looped}
 
 -- A way that is written from its end back to the channel `at`, i edges from where the row begins; each of its later channels is farther.

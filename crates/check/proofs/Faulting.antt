@@ -2,7 +2,7 @@
 use mathlib.Core.Path.{_≡_, refl, sym, ap, subst, _∙_}
 use mathlib.Core.Bool.{Bool, true, false, cond, not}
 use mathlib.Core.List.{List, [], _∷_, _++_, map}
-use Prim.Native.Nat.{ℕ, zero, suc, _+_, _-_, _<_, _≤_}
+use Prim.Native.Nat.{ℕ, _+_, _-_, _<_, _≤_}
 use native.Mathlib.Omega.{arith}
 use lib.Dec.{eqb, ltb}
 use Rattle.std.specs.declared.option.Option.{Option}
@@ -12,7 +12,7 @@ use Rattle.std.proofs.shelf.Tests.{eq-eqb, ne-eqb}
 use Rattle.model.specs.Lists.{upFrom, below, keep, joined}
 use Rattle.model.specs.Net.{Net}
 use Rattle.model.specs.Rules.{Rule}
-use Rattle.model.specs.Routes.{Pair, pairsOf, Ending, arrives, stops, tires, routeEnds}
+use Rattle.model.specs.Routes.{Pair, Ending, arrives, stops, tires, routeEnds}
 use Rattle.model.specs.Verdicts.{Verdict, laneless, pairVerdict, pairsVerdict}
 use Rattle.routing.specs.declared.fault.RuleFault.{RuleFault}
 use Rattle.routing.specs.declared.fault.RuleFault.the-variants.{Stopped, Unreached, Laneless}

@@ -1,17 +1,15 @@
 -- From what the parts of the check found to its answer.
 use mathlib.Core.Path.{_≡_, refl, sym, ap, subst, _∙_}
-use mathlib.Core.Bool.{Bool, true, false, cond, _&&_}
+use mathlib.Core.Bool.{Bool, true, false, cond}
 use mathlib.Core.List.{List, [], _++_}
 use Prim.Native.Nat.{ℕ, _*_, _≤_}
 use native.Mathlib.Omega.{arith}
 use lib.Dec.{leb}
 use lib.ListN.{length, drop}
-use Rattle.std.specs.declared.option.Option.{Option}
 use Rattle.std.specs.declared.option.Option.the-variants.{None, Some}
 use Rattle.std.proofs.shelf.Lists.{append-nil}
 use Rattle.std.proofs.shelf.Tests.{and-parts, leb-true}
 use Rattle.model.specs.Net.{count}
-use Rattle.model.specs.Refusals.{Refusal, refuse, ruleLayer}
 use Rattle.model.specs.Rules.{Setup}
 use Rattle.model.specs.Routes.{Pair, pairsOf, depends}
 use Rattle.model.specs.Verdicts.{Accepts, Verdict, fine, stopped, unreached, laneless, cyclic, pairsVerdict, verdict}
@@ -19,7 +17,7 @@ use Rattle.model.proofs.Judging.{verdict-exact}
 use Rattle.routing.specs.Faults.{ruleRefusal}
 use Rattle.routing.specs.declared.fault.RuleFault.{RuleFault}
 use Rattle.routing.specs.declared.fault.RuleFault.the-variants.{Cyclic}
-use Rattle.check.specs.Findings.{Finding, refused, finding, Tells, FirstFault}
+use Rattle.check.specs.Findings.{Finding, refused, finding, FirstFault}
 use Rattle.check.specs.Checks.{fewLanes, longEnough, badLaneCount, shortList, found, orders, Settles, Checked, YesExactly}
 use Rattle.check.specs.Circles.{Looped}
 use Rattle.check.specs.Answers.{Paired}

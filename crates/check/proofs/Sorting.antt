@@ -1,7 +1,7 @@
 -- What the code of the order does, turn by turn.
 use mathlib.Core.Path.{_≡_, refl, sym, ap, subst, _∙_}
-use mathlib.Core.Logic.{_⊎_, inl, inr}
-use mathlib.Core.Bool.{Bool, true, false, cond, not, _&&_, _||_}
+use mathlib.Core.Logic.{inl, inr}
+use mathlib.Core.Bool.{Bool, true, false, cond, not, _&&_}
 use mathlib.Core.List.{List, [], _∷_, _++_}
 use Prim.Native.Nat.{ℕ, zero, suc, _+_, _-_, _<_, _≤_}
 use native.Mathlib.Omega.{arith}
@@ -10,8 +10,8 @@ use lib.ListN.{length, getD, set, take, replicate}
 use Rattle.std.specs.declared.option.Option.{Option}
 use Rattle.std.specs.declared.option.Option.the-variants.{None, Some}
 use Rattle.std.proofs.shelf.Lists.{append-assoc, append-nil, getD-past, getD-replicate, getD-set-same, getD-set-other, length-set, take-more-set, nil-from-length}
-use Rattle.std.proofs.shelf.Tests.{and-parts, and-from, and-right, and-left, both-ways, false≢true, not-true, not-false, not-from-false, eqb-true, eq-eqb, ne-eqb, ltb-true, cases-eq, cases-lt, cases-bool, or-left, or-right}
-use Rattle.model.specs.Lists.{upFrom, below, anyOf, allOf, first, keep, isIn, without, isEmpty, different}
+use Rattle.std.proofs.shelf.Tests.{and-parts, and-from, and-right, and-left, both-ways, not-false, eqb-true, eq-eqb, ne-eqb, ltb-true, cases-eq, cases-lt, cases-bool}
+use Rattle.model.specs.Lists.{upFrom, below, allOf, first, keep, isIn, without, isEmpty, different}
 use Rattle.model.specs.Routes.{Edge, has}
 use Rattle.model.specs.Order.{free, orderFrom, restFrom, orderOf, completes}
 use Rattle.model.proofs.Members.{isIn-cases, isIn-at, isIn-there, any-keep, allOf-any, allOf-fails, all-from, isIn-below, below-in, all-below, different-more, different-parts, different-upFrom, first-in, without-one, length-upFrom}

@@ -4,10 +4,10 @@ use mathlib.Core.Path.{_≡_}
 use mathlib.Core.Bool.{Bool, true, false, _&&_}
 use mathlib.Core.List.{List}
 use Prim.Native.Nat.{ℕ, _<_, _≤_}
-use lib.ListN.{getD, length, take}
+use lib.ListN.{getD, take}
 use Rattle.std.specs.declared.option.Option.{Option}
 use Rattle.std.specs.declared.option.Option.the-variants.{None, Some}
-use Rattle.model.specs.Routes.{Edge, has}
+use Rattle.model.specs.Routes.{Edge}
 use Rattle.model.specs.Order.{orderOf, completes}
 
 -- A list of marks as a test.

@@ -5,13 +5,13 @@ use mathlib.Core.List.{List}
 use Prim.Native.Nat.{ℕ, zero, suc, _+_, _<_, _≤_}
 use native.Mathlib.Numerals.{add-one}
 use native.Mathlib.Omega.{arith}
-use lib.ListN.{length, getD, set, replicate, length-set}
+use lib.ListN.{length, getD, set, replicate}
 use lib.Seq.{getD-set-same, getD-set-other}
 use Rattle.std.proofs.shelf.Lists.{getD-replicate}
 use Rattle.std.proofs.shelf.Tests.{cases-eq}
 use mathlib.Core.Logic.{inl, inr}
 use Rattle.model.specs.Routes.{Edge, has}
-use Rattle.model.specs.Waits.{turnCost, largest, holdFrom}
+use Rattle.model.specs.Waits.{turnCost, holdFrom}
 use Rattle.patience.specs.Caps.{capped, heaviest, Row, costs, holdOn}
 use Rattle.patience.proofs.Capping.{capped-turn, heaviest-more, largest-heaviest}
 

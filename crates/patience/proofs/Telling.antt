@@ -2,18 +2,18 @@
 use mathlib.Core.Path.{_≡_, refl, sym, ap, subst, _∙_}
 use mathlib.Core.Bool.{Bool, true, false, not, _&&_}
 use mathlib.Core.List.{List}
-use Prim.Native.Nat.{ℕ, _+_, _-_, _<_, _≤_}
+use Prim.Native.Nat.{ℕ, _+_, _-_, _<_}
 use native.Mathlib.Omega.{arith}
 use lib.Dec.{eqb, ltb}
 use lib.ListN.{length, getD}
 use Rattle.std.proofs.shelf.Tests.{and-from, lt-ltb, ne-eqb}
 use Rattle.std.specs.declared.result.Result.{Result}
 use Rattle.std.specs.declared.result.Result.the-variants.{Ok, Err}
-use Rattle.model.specs.Net.{Net, count, isPair}
+use Rattle.model.specs.Net.{count, isPair}
 use Rattle.model.specs.Positions.{positionCount}
-use Rattle.model.specs.Rules.{Rule, Setup}
+use Rattle.model.specs.Rules.{Setup}
 use Rattle.model.specs.Routes.{route, laneDeps, depends, has}
-use Rattle.model.specs.Waits.{turnCost, total, hold, holdFrom, patience}
+use Rattle.model.specs.Waits.{turnCost, total, hold, patience}
 use Rattle.model.proofs.Walking.{walk-exists}
 use Rattle.model.proofs.Dependencies.{deps-inside}
 use Rattle.routing.specs.declared.fault.RuleFault.{RuleFault}

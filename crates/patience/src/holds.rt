@@ -1,6 +1,5 @@
 ghost use mathlib.Core.Path.{_≡_};
-ghost use Prim.Native.Nat.{_<_, _≤_};
-ghost use lib.ListN.{getD};
+ghost use Prim.Native.Nat.{_<_};
 ghost use Rattle.model.specs.Net.{count};
 ghost use Rattle.model.specs.Positions.{positionCount};
 ghost use Rattle.model.specs.Waits.{turnCost};

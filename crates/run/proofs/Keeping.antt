@@ -1,11 +1,11 @@
 -- From one step of a run to every history that it follows.
 use mathlib.Core.Path.{_≡_, refl, sym, ap, subst₂, _∙_}
-use mathlib.Core.List.{List, [], _∷_, _++_}
+use mathlib.Core.List.{[], _∷_, _++_}
 use Prim.Native.Nat.{ℕ}
 use Rattle.std.specs.declared.option.Option.{Option}
 use Rattle.std.specs.declared.option.Option.the-variants.{Some}
 use Rattle.model.specs.Rules.{Rule, Setup}
-use Rattle.model.specs.Packets.{Packet, bare, Call, Request, make, look, lookSender, Reply, said}
+use Rattle.model.specs.Packets.{Packet, bare, Call, make, look, lookSender, Reply, said}
 use Rattle.model.specs.State.{State, each}
 use Rattle.model.specs.Run.{Step, step}
 use Rattle.model.specs.History.{stateAfter}
@@ -13,7 +13,7 @@ use Rattle.model.proofs.Promising.{promise}
 use Rattle.model.proofs.Unseen.{places-unseen}
 use Rattle.run.specs.View.{view}
 use Rattle.run.specs.Sites.{slotShown, senderShown}
-use Rattle.run.specs.Runs.{setupOf, Follows, Steps, Obeys, Shows, Keeps}
+use Rattle.run.specs.Runs.{setupOf, Steps, Obeys, Shows, Keeps}
 use Rattle.run.specs.declared.run.Run.{Run}
 
 abbrev plainStep : Setup → State Packet → Call → Step Packet

@@ -1,6 +1,5 @@
 -- The code's packets, calls, requests and answers as those of the model. An answer is an option: want of memory says nothing, and
 -- no call here answers it.
-use Prim.Native.Nat.{ℕ}
 use Rattle.std.specs.Options.{mapped}
 use Rattle.std.specs.declared.option.Option.{Option}
 use Rattle.std.specs.declared.option.Option.the-variants.{Some}

@@ -5,7 +5,6 @@ ghost use Prim.Native.Nat.{ℕ, _+_, _<_, _≤_};
 ghost use lib.ListN.{length};
 ghost use Rattle.std.specs.Options.{Cases as BySome};
 ghost use Rattle.std.specs.declared.option.Option.the-variants.{Some};
-ghost use Rattle.model.specs.Walks.{Fewest};
 ghost use Rattle.model.specs.Routes.{isCycle};
 ghost use Rattle.graph.specs.Distances.{hopsTo};
 ghost use Rattle.check.specs.Cells.{edgeAt};

@@ -1,10 +1,8 @@
-use mathlib.Core.Path.{_≡_, subst, _∙_}
-use mathlib.Core.List.{List}
-use Prim.Native.Nat.{ℕ}
+use mathlib.Core.Path.{_∙_}
 use native.Mathlib.Omega.{arith}
 use borrow.Author.Count.{below-more}
 use Rattle.check.specs.Cells.{edgeAt}
-use Rattle.check.specs.Circles.{Open, Looped}
+use Rattle.check.specs.Circles.{Open}
 use Rattle.check.proofs.Circling.{not-all-open}
 use Rattle.check.proofs.lane.cycle.write_cycle.Needs as need
 

@@ -1,8 +1,6 @@
-use mathlib.Core.Path.{_≡_, sym, ap, subst, _∙_}
+use mathlib.Core.Path.{sym, ap, _∙_}
 use Prim.Native.Nat.{ℕ, _+_, _-_}
 use native.Mathlib.Omega.{arith}
-use Rattle.std.specs.declared.option.Option.{Option}
-use Rattle.std.specs.declared.option.Option.the-variants.{Some, None}
 use Rattle.model.specs.Routes.{hop}
 use Rattle.fabric.specs.Of.{net}
 use Rattle.check.proofs.Stepping.{walk-stop, walk-none}
