@@ -16,8 +16,10 @@ use Rattle.model.specs.Refusals.{Refusal}
 use Rattle.model.specs.Cabling.{linkRefusal, cablingRefusal, badSwitchCount, badEndList, missingEnd, equalEnds, Cabled, Refused}
 use Rattle.model.proofs.LinkTests.{cabling-exact}
 use Rattle.std.specs.Options.{Cases}
-use Rattle.fabric.specs.Channels.{plain, Inside}
+use Rattle.fabric.specs.Channels.{plain, Inside, starts, finishes, Linked}
+use Rattle.fabric.specs.Faults.{fabricRefusal}
 use Rattle.fabric.specs.declared.channel.Channel.{Channel as CodeChannel}
+use Rattle.fabric.specs.declared.fault.FabricFault.{FabricFault}
 
 -- the ends from link i on
 ends-more : (ends : List ℕ) (i : ℕ) → 2 * i + 1 < length ends → drop (2 * i) ends ≡ getD ends (2 * i) 0 ∷ (getD ends (2 * i + 1) 0 ∷ drop (2 * (i + 1)) ends)
@@ -133,3 +135,39 @@ pub channel-count : (ends : List ℕ) → length ends % 2 ≡ 0 → length (chan
 channel-count [] h = refl
 channel-count (a ∷ []) h = absurd (omega arith)
 channel-count (a ∷ (b ∷ ends)) h = omega (arith, channel-count ends (omega arith))
+
+-- the ends come back
+pub starts-of : (ends : List ℕ) → length ends % 2 ≡ 0 → starts (channelsOf ends) ≡ ends
+starts-of [] h = refl
+starts-of (a ∷ []) h = absurd (omega arith)
+starts-of (a ∷ (b ∷ ends)) h = ap (λ (z : List ℕ). a ∷ (b ∷ z)) (starts-of ends (omega arith))
+
+pub linked : (ends : List ℕ) → length ends % 2 ≡ 0 → Linked (channelsOf ends)
+linked ends h =
+    let e : channelsOf (starts (channelsOf ends)) ≡ channelsOf ends = ap (λ (z : List ℕ). channelsOf z) (starts-of ends h) in
+    (ap (λ (z : List Channel). starts z) e, ap (λ (z : List Channel). finishes z) e)
+
+-- channels that start and end alike are the same
+same-channels : (cs ds : List Channel) → starts cs ≡ starts ds → finishes cs ≡ finishes ds → cs ≡ ds
+same-channels [] [] p q = refl
+same-channels [] (d ∷ ds) p q = let z : _≡_ {A = ℕ} 0 1 = cc in absurd (omega arith)
+same-channels (c ∷ cs) [] p q = let z : _≡_ {A = ℕ} 0 1 = cc in absurd (omega arith)
+same-channels (c ∷ cs) (d ∷ ds) p q =
+    let a : c .start ≡ d .start = cc in
+    let b : c .finish ≡ d .finish = cc in
+    let s : starts cs ≡ starts ds = cc in
+    let f : finishes cs ≡ finishes ds = cc in
+    ap (λ (n : ℕ). record { start = n; finish = c .finish } ∷ cs) a ∙ ap (λ (n : ℕ). record { start = d .start; finish = n } ∷ cs) b
+    ∙ ap (λ (z : List Channel). d ∷ z) (same-channels cs ds s f)
+
+-- linked channels are those of the links whose ends are their starts
+pub linked-channels : (cs : List Channel) → Linked cs → channelsOf (starts cs) ≡ cs
+linked-channels cs h = same-channels (channelsOf (starts cs)) cs (h .0) (h .1)
+
+-- a fault that is this refusal
+pub found : (e : FabricFault) (o : Option Refusal) → Cases (fabricRefusal e) ⊥ (λ r. o ≡ Some r) → fabricRefusal e ≡ o
+found e o h = by (fabricRefusal e) h
+  where
+    by : (p : Option Refusal) → Cases p ⊥ (λ r. o ≡ Some r) → p ≡ o
+    by None h = absurd h
+    by (Some r) h = sym h

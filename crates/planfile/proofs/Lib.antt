@@ -1,1 +1,9 @@
 pub mod Entries
+pub mod Faulty
+pub mod Rows
+pub mod Heads
+pub mod Whole
+pub mod Plans
+pub mod Fronts
+pub mod Rounds
+pub mod Recoding

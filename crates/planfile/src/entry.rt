@@ -1,4 +1,6 @@
+ghost use mathlib.Core.Path.{_≡_};
 ghost use Rattle.planfile.specs.Contents.{Taken};
+ghost use Rattle.planfile.specs.File.{entryBytes};
 
 // An entry of the contents: what a body is, where it begins and how long it is.
 #[derive(Clone, Copy, PartialEq, Eq, Debug)]
@@ -21,5 +23,14 @@ impl Entry {
             }),
             _ => None,
         }
+    }
+    // The eight bytes of an entry.
+    pub fn write(self) -> [u8; 8]
+        ensures { λ r. ⌜ r ≡ entryBytes (self .tag) (self .offset) (self .length) ⌝ }
+    {
+        let [t0, t1, t2, t3] = self.tag;
+        let [o0, o1] = [(self.offset / 256) as u8, (self.offset % 256) as u8];
+        let [l0, l1] = [(self.length / 256) as u8, (self.length % 256) as u8];
+        [t0, t1, t2, t3, o0, o1, l0, l1]
     }
 }

@@ -32,8 +32,8 @@ fn judge_links(switches: u32, ends: &[u8]) -> Result<(), FabricFault>
     Ok(())
 }
 
-// Every test of a switch count and a list of link ends, in order.
-fn judge(switches: u32, ends: &[u8]) -> Result<(), FabricFault>
+// Every test of a switch count and a list of link ends, in order. It wants no memory.
+pub fn judge(switches: u32, ends: &[u8]) -> Result<(), FabricFault>
     ensures { λ r. ⌜ Judges switches (now (ends .entry)) r ⌝ }
 {
     if switches < 2 || switches > 32 {

@@ -1,5 +1,5 @@
 use mathlib.Core.Logic.{inl, inr}
-use mathlib.Core.Path.{sym, _∙_}
+use mathlib.Core.Path.{_∙_}
 use Prim.Native.Nat.{_+_, _*_, _<_}
 use native.Mathlib.Omega.{arith}
 use lib.ListN.{length}
@@ -10,16 +10,16 @@ use Rattle.fabric.proofs.network.makes.judge_links.Needs.{then-a-switches·by�
 pub returns-then-a-switches : need.returns-then-a-switches
 returns-then-a-switches c =
     let h : 2 * c .loop-link .link + 1 < length (c .args .ends .now) = omega arith in
-    sym (c .loop-link .inv ∙ link-missing _ _ _ h
+    c .loop-link .inv ∙ link-missing _ _ _ h
     (elim (c .then-a-switches .came) [
       | then-a-switches·by·then-a-switches w ↦ inl (omega arith)
       | then-a-switches·by·else-a-switches·then-b-switches w ↦ inr (omega arith)
-    ]))
+    ])
 
 pub returns-then-a-b : need.returns-then-a-b
 returns-then-a-b c =
     let h : 2 * c .loop-link .link + 1 < length (c .args .ends .now) = omega arith in
-    sym (c .loop-link .inv ∙ link-equal _ _ _ h (omega arith) (omega arith) (c .if-a-b .taken))
+    c .loop-link .inv ∙ link-equal _ _ _ h (omega arith) (omega arith) (c .if-a-b .taken)
 
 pub loop-link-again : need.loop-link-again
 loop-link-again c =

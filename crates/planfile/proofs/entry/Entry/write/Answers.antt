@@ -1,0 +1,10 @@
+use mathlib.Core.List.{List}
+use mathlib.Core.Path.{sym, ap}
+use Prim.Native.Nat.{ℕ}
+use native.Mathlib.Omega.{arith}
+use Rattle.planfile.specs.File.{entryBytes}
+use Rattle.planfile.proofs.Heads.{four}
+use Rattle.planfile.proofs.entry.Entry.write.Needs as need
+
+pub returns : need.returns
+returns c = sym (ap (λ (t : List ℕ). entryBytes t (c .args .self .offset) (c .args .self .length)) (four (c .args .self .tag) (omega arith)))
