@@ -1,5 +1,13 @@
+ghost use Prim.Native.Nat.{_+_, _*_};
+ghost use denote.Ref.{now};
+ghost use lib.Dec.{ltb};
+ghost use lib.ListN.{length, getD};
+ghost use mathlib.Core.Bool.{cond};
+ghost use Rattle.std.specs.declared.option.Option.the-variants.{None};
+ghost use Rattle.model.specs.Rules.{channelByte};
 use check::check;
 use fabric::Fabric;
+use routing::RouteRule;
 use routing::RuleFault;
 use routing::table::Table;
 use routing::table::TableRule;
@@ -10,6 +18,29 @@ use run::Request;
 use run::Run;
 use std::alloc::Global;
 use std::error::AnyError;
+
+// A rule of this program's own, which borrows: channels by switch and destination, four to a row; every lane is 0.
+#[derive(Drop)]
+struct Rows<'a> {
+    channels: &'a [u8],
+}
+
+impl RouteRule for Rows<'_> as RowsRule {
+    ghost maps = { λ s. record { next = λ u d. cond (ltb (u * 4 + d) (length (now (s .channels)))) (channelByte (getD (now (s .channels)) (u * 4 + d) 0)) None; lane = λ _ _. 0 } };
+
+    fn channel(&self, switch: u8, destination: u8) -> Option<u8> {
+        let at = switch as usize * 4 + destination as usize;
+        if at >= self.channels.len() {
+            return None;
+        }
+        let channel = self.channels[at];
+        if channel < 255 { Some(channel) } else { None }
+    }
+
+    fn lane(&self, _source: u8, _destination: u8) -> u8 {
+        0
+    }
+}
 
 // The ring of four switches: link i joins switch i to the next, the last one to the first.
 const ENDS: [u8; 8] = [0, 1, 1, 2, 2, 3, 3, 0];
@@ -47,7 +78,7 @@ fn table(heap: Global, fabric: &Fabric) -> Result<Table, AnyError> {
 }
 
 // What the check says of the rule, with the order of the lane after a yes.
-fn report_check(rt: &LibcRuntime, fabric: &Fabric, rule: &Table) -> Result<(), AnyError> {
+fn report_check<R: RouteRule>(rt: &LibcRuntime, fabric: &Fabric, rule: &R) -> Result<(), AnyError> {
     let mut order = [0u8; 8];
     let mut cycle = [0u8; 8];
     match check(fabric, 1, rule, &mut order, &mut cycle) {
@@ -93,13 +124,15 @@ fn report(rt: &LibcRuntime, answer: Answer) -> Result<(), AnyError> {
     Ok(())
 }
 
-// Checks the rule of a small fabric and plays a run on it from its opening on.
-fn deliver(rt: &LibcRuntime) -> Result<(), AnyError> {
-    let fabric = ring(rt.alloc())?;
-    let rule = table(rt.alloc(), &fabric)?;
-    report_check(rt, &fabric, &rule)?;
+// Checks a rule and plays a run on it from its opening on.
+fn deliver_by<'a, R: RouteRule>(
+    rt: &LibcRuntime,
+    fabric: &'a Fabric,
+    rule: &'a R,
+) -> Result<(), AnyError> {
+    report_check(rt, fabric, rule)?;
     let mut answers = [Answer::Taken; 9];
-    match Run::replay(&fabric, 1, &rule, &REQUESTS, &mut answers) {
+    match Run::replay(fabric, 1, rule, &REQUESTS, &mut answers) {
         Ok(_) => {}
         Err(_) => return Err("the run is refused".into()),
     }
@@ -107,6 +140,19 @@ fn deliver(rt: &LibcRuntime) -> Result<(), AnyError> {
         report(rt, answer)?;
     }
     Ok(())
+}
+
+// The same packet by a stored table and by a rule that borrows its channels.
+fn deliver(rt: &LibcRuntime) -> Result<(), AnyError> {
+    let fabric = ring(rt.alloc())?;
+    let rule = table(rt.alloc(), &fabric)?;
+    rt.println("by a stored table")?;
+    deliver_by(rt, &fabric, &rule)?;
+    rt.println("by borrowed rows")?;
+    let rows = Rows {
+        channels: &CHANNELS,
+    };
+    deliver_by(rt, &fabric, &rows)
 }
 
 fn main(rt: LibcRuntime) -> Result<(), AnyError> {
