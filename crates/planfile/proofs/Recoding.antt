@@ -11,18 +11,24 @@ use Rattle.std.specs.declared.option.Option.{Option}
 use Rattle.std.specs.declared.option.Option.the-variants.{Some, None}
 use Rattle.std.specs.declared.result.Result.{Result}
 use Rattle.std.specs.declared.result.Result.the-variants.{Ok, Err}
+use Rattle.fabric.specs.Faults.{callRefusal}
 use Rattle.fabric.specs.Of.{net}
+use Rattle.fabric.specs.declared.fault.CallFault.{CallFault}
+use Rattle.fabric.specs.declared.fault.CallFault.the-variants.{MissingNumber, SenderTaken, ShortList, LaneCount}
 use Rattle.fabric.specs.declared.network.Fabric.{Fabric}
+use Rattle.model.specs.Net.{Net}
 use Rattle.model.specs.Refusals.{Refusal}
 use Rattle.model.specs.Rules.{Rule}
 use Rattle.routing.specs.Tables.{ruleOf}
+use Rattle.routing.specs.declared.fault.RuleFault.the-variants.{Call}
 use Rattle.planfile.specs.Decodes.{Refuses, planBytes}
 use Rattle.planfile.specs.Faults.{fileRefusal}
 use Rattle.planfile.specs.File.{fileBytes}
 use Rattle.planfile.specs.Refused.{PlanFile, Refused, laneCountIn}
-use Rattle.planfile.specs.Round.{Back, Keeps, Recodes}
+use Rattle.planfile.specs.Round.{Back, Keeps, Recodes, Written}
 use Rattle.planfile.specs.Writes.{Named, writeRefusal}
 use Rattle.planfile.specs.declared.fault.FileFault.{FileFault}
+use Rattle.planfile.specs.declared.fault.FileFault.the-variants.{Rule as FileRule}
 use Rattle.planfile.specs.declared.plan.Plan.{Plan}
 use Rattle.planfile.proofs.Rounds.{count-is}
 
@@ -64,7 +70,21 @@ front-is file old new k l q =
     let e : k - 0 ≡ k = omega arith in
     ap (λ (z : ℕ). take z new) e ∙ ap (λ (z : List ℕ). take k z) q ∙ take-at file (drop k old) k (sym l)
 
-pub kept : (f : Fabric) (lanes : ℕ) (rule : Rule) (bs old : List ℕ) (r : Result Plan FileFault) → Named (net f .switches) rule → bs ≡ fileBytes (net f) lanes rule
-    → writeRefusal lanes (length (fileBytes (net f) lanes rule)) (length old) ≡ None → Back bs r → Keeps (net f) lanes rule old r
-kept f lanes rule bs old (Ok p) nm e w b = b f lanes rule nm e
-kept f lanes rule bs old (Err g) nm e w b = b f lanes rule nm e ∙ sym w
+-- and what follows it is the list from there on
+pub at-length : (file old new : List ℕ) (k : ℕ) → k ≡ length file → new ≡ file ++ drop k old → new ≡ file ++ drop (length file) old
+at-length file old new k l q = q ∙ ap (λ (z : ℕ). file ++ drop z old) l
+
+pub kept : (f : Fabric) (lanes : ℕ) (rule : Rule) (bs old new : List ℕ) (r : Result Plan FileFault) → Named (net f .switches) rule → bs ≡ fileBytes (net f) lanes rule
+    → Written (net f) lanes rule old new → Back bs r → Keeps (net f) lanes rule old new r
+kept f lanes rule bs old new (Ok p) nm e w b = (w, b f lanes rule nm e)
+kept f lanes rule bs old new (Err g) nm e w b =
+    subst (λ (o : Option Refusal). Cases o (Written (net f) lanes rule old new) (λ r. (writeRefusal lanes (length (fileBytes (net f) lanes rule)) (length old) ≡ Some r) × (new ≡ old)))
+    (sym (b f lanes rule nm e)) w
+
+-- a refused call is a refused writing
+pub not-kept : (net′ : Net) (lanes : ℕ) (rule : Rule) (old new : List ℕ) (g : CallFault) → callRefusal g ≡ writeRefusal lanes (length (fileBytes net′ lanes rule)) (length old) → new ≡ old
+    → Keeps net′ lanes rule old new (Err (FileRule (Call g)))
+not-kept net′ lanes rule old new MissingNumber e q = (sym e, q)
+not-kept net′ lanes rule old new SenderTaken e q = (sym e, q)
+not-kept net′ lanes rule old new ShortList e q = (sym e, q)
+not-kept net′ lanes rule old new LaneCount e q = (sym e, q)

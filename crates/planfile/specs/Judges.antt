@@ -22,9 +22,9 @@ abbrev pub Faulty : List ℕ → FileFault → Type 0
 Faulty bs f = Cases (fileRefusal f) ⊥ (Refused bs)
 
 -- The contents, with their tags.
-abbrev pub Opens : List ℕ → Result Contents FileFault → Type 0
-Opens bs (Ok c) = Opened bs × Holds bs c
-Opens bs (Err f) = Faulty bs f
+abbrev pub Tagged : List ℕ → Result Contents FileFault → Type 0
+Tagged bs (Ok c) = Opened bs × Holds bs c
+Tagged bs (Err f) = Faulty bs f
 
 -- The switch count and the link ends.
 abbrev pub Links-in : List ℕ → Result Links FileFault → Type 0

@@ -36,10 +36,19 @@ Returns net′ lanes rule (Err f) = fileRefusal f ≡ None
 abbrev pub Back : List ℕ → Result Plan FileFault → Type 0
 Back bs r = (f : Fabric) (lanes : ℕ) (rule : Rule) → Named (net f .switches) rule → bs ≡ fileBytes (net f) lanes rule → Returns (net f) lanes rule r
 
--- Writing a file and decoding it: the same plan. A fault is the refusal of the writing; want of memory comes only where that has none.
-abbrev pub Keeps : Net → ℕ → Rule → List ℕ → Result Plan FileFault → Type 0
-Keeps net′ lanes rule old (Ok p) = Same net′ lanes rule (net (p .fabric)) (p .lanes) (ruleOf (p .table))
-Keeps net′ lanes rule old (Err f) = fileRefusal f ≡ writeRefusal lanes (length (fileBytes net′ lanes rule)) (length old)
+-- Nothing refuses the writing: the file is the front of the list, and what follows it stays.
+abbrev pub Written : Net → ℕ → Rule → List ℕ → List ℕ → Type 0
+Written net′ lanes rule old new =
+    (writeRefusal lanes (length (fileBytes net′ lanes rule)) (length old) ≡ None)
+    × (new ≡ fileBytes net′ lanes rule ++ drop (length (fileBytes net′ lanes rule)) old)
+
+-- Writing a file and decoding it: the same plan. A fault is the refusal of the writing, which changes nothing, or want of memory after
+-- the file was written.
+abbrev pub Keeps : Net → ℕ → Rule → List ℕ → List ℕ → Result Plan FileFault → Type 0
+Keeps net′ lanes rule old new (Ok p) = Written net′ lanes rule old new × Same net′ lanes rule (net (p .fabric)) (p .lanes) (ruleOf (p .table))
+Keeps net′ lanes rule old new (Err f) =
+    Cases (fileRefusal f) (Written net′ lanes rule old new)
+    (λ r. (writeRefusal lanes (length (fileBytes net′ lanes rule)) (length old) ≡ Some r) × (new ≡ old))
 
 -- Decoding a file and writing it again: the same bytes at the front of the list. A fault is the refusal of the bytes or, of a plan
 -- file, that of the writing; it changes nothing.

@@ -10,6 +10,16 @@ pub struct Entry {
     pub length: u16,
 }
 
+// A tag, then offset and length, high byte first.
+fn lay_out(tag: [u8; 4], offset: u16, length: u16) -> [u8; 8]
+    ensures { λ r. ⌜ r ≡ entryBytes tag offset length ⌝ }
+{
+    let [t0, t1, t2, t3] = tag;
+    let [o0, o1] = [(offset / 256) as u8, (offset % 256) as u8];
+    let [l0, l1] = [(length / 256) as u8, (length % 256) as u8];
+    [t0, t1, t2, t3, o0, o1, l0, l1]
+}
+
 impl Entry {
     // Takes the eight bytes of an entry apart; none for any other count of bytes.
     pub fn read(bytes: &[u8]) -> Option<Entry>
@@ -24,13 +34,11 @@ impl Entry {
             _ => None,
         }
     }
+
     // The eight bytes of an entry.
     pub fn write(self) -> [u8; 8]
         ensures { λ r. ⌜ r ≡ entryBytes (self .tag) (self .offset) (self .length) ⌝ }
     {
-        let [t0, t1, t2, t3] = self.tag;
-        let [o0, o1] = [(self.offset / 256) as u8, (self.offset % 256) as u8];
-        let [l0, l1] = [(self.length / 256) as u8, (self.length % 256) as u8];
-        [t0, t1, t2, t3, o0, o1, l0, l1]
+        lay_out(self.tag, self.offset, self.length)
     }
 }

@@ -3,7 +3,7 @@ ghost use Prim.Native.Nat.{_+_, _*_, _≤_};
 ghost use lib.ListN.{length};
 ghost use Rattle.std.specs.Orderings.{Decides};
 ghost use Rattle.planfile.specs.Contents.{Holds};
-ghost use Rattle.planfile.specs.Judges.{Judges, Opens, Searches, Tables-in};
+ghost use Rattle.planfile.specs.Judges.{Judges, Searches, Tables-in, Tagged};
 ghost use Rattle.planfile.specs.Refused.{Cabled, switchesIn};
 use crate::bodies::Bodies;
 use crate::bodies::Tables;
@@ -14,7 +14,7 @@ use crate::links::read_links;
 
 // The contents, and refusals 15 and 16.
 fn open(bytes: &[u8]) -> Result<Contents, FileFault>
-    ensures { λ r. ⌜ Opens (now (bytes .entry)) r ⌝ }
+    ensures { λ r. ⌜ Tagged (now (bytes .entry)) r ⌝ }
 {
     let contents = contents_of(bytes)?;
     if contents.link.tag != *b"LINK" {

@@ -32,7 +32,7 @@ fn decoded<R: RouteRule>(
     rule: &R,
     out: &mut [u8],
 ) -> Result<Plan, FileFault>
-    ensures { λ r. ⌜ Keeps (net (now (fabric .entry))) lanes (maps (now (rule .entry))) (now (out .entry)) r ⌝ }
+    ensures { λ r. ⌜ Keeps (net (now (fabric .entry))) lanes (maps (now (rule .entry))) (now (out .entry)) (now (out .exit)) r ⌝ }
 {
     let length = write(fabric, lanes, rule, out)?;
     decode(heap, &out[0..length])
@@ -46,7 +46,7 @@ pub fn write_and_decode<R: RouteRule>(
     rule: &R,
     out: &mut [u8],
 ) -> Result<Plan, FileFault>
-    ensures { λ r. ⌜ Keeps (net (now (fabric .entry))) lanes (maps (now (rule .entry))) (now (out .entry)) r ⌝ }
+    ensures { λ r. ⌜ Keeps (net (now (fabric .entry))) lanes (maps (now (rule .entry))) (now (out .entry)) (now (out .exit)) r ⌝ }
 {
     decoded(heap, fabric, lanes, rule, out)
 }
