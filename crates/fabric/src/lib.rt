@@ -1,4 +1,6 @@
 // A fabric: switches, and the channels that join them.
+#![tactic(auto)]
+
 pub mod channel;
 pub mod fault;
 pub mod grid;

@@ -1,8 +1,10 @@
+#![tactic(auto)]
+
 ghost use Rattle.std.specs.Prelude.{◌+◌, ◌*◌, length, if◌then◌else◌, None, nat_lt, slice_index};
 ghost use Rattle.model.specs.Rules.{channel_byte};
 
 use anyhow::anyhow;
-use check::check;
+use lane_check::check;
 use fabric::Fabric;
 use routing::table::Table;
 use routing::{RouteRule, RuleFault};

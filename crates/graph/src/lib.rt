@@ -1,3 +1,5 @@
+#![tactic(auto)]
+
 ghost use Rattle.std.specs.Prelude.{◌≡◌, ℕ, ◌≤◌, Bool, false};
 
 // Graphs of 1 to 128 nodes, and the search for the fewest edges from one node to another.

@@ -33,7 +33,7 @@ impl Distances {
 // Follows the edges of one node, reached in this round, to the nodes that are not reached yet.
 fn relax<G: Graph>(graph: &G, row: &mut [u8; 128], node: u32, round: u8) -> bool
     requires { round < 254 }
-    ensures { Relaxed (edge graph.now node) (nodes graph.now) (nodes graph.now) round row.old row.new result }
+    ensures { Relaxed (G.edge graph.now node) (G.nodes graph.now) (G.nodes graph.now) round row.old row.new result }
 {
     let mut changed = false;
     for to in 0..graph.node_count() {
@@ -48,7 +48,7 @@ fn relax<G: Graph>(graph: &G, row: &mut [u8; 128], node: u32, round: u8) -> bool
 // Follows the edges of every node reached in this round.
 fn advance<G: Graph>(graph: &G, row: &mut [u8; 128], round: u8) -> bool
     requires { round < 254 }
-    ensures { Grown (edge graph.now) (nodes graph.now) round (nodes graph.now) row.old row.new result }
+    ensures { Grown (G.edge graph.now) (G.nodes graph.now) round (G.nodes graph.now) row.old row.new result }
 {
     let mut changed = false;
     for node in 0..graph.node_count() {
@@ -62,8 +62,8 @@ fn advance<G: Graph>(graph: &G, row: &mut [u8; 128], round: u8) -> bool
 
 // Fills a row in which nothing is reached.
 fn spread<G: Graph>(graph: &G, row: &mut [u8; 128], from: u32)
-    requires { (from < nodes graph.now) × (row.old ≡ replicate 128 255) }
-    ensures { Row (edge graph.now) (nodes graph.now) from row.new }
+    requires { (from < G.nodes graph.now) × (row.old ≡ replicate 128 255) }
+    ensures { Row (G.edge graph.now) (G.nodes graph.now) from row.new }
 {
     row[from as usize] = 0;
     let mut round = 0u8;
@@ -74,7 +74,7 @@ fn spread<G: Graph>(graph: &G, row: &mut [u8; 128], from: u32)
 
 // The hop search: the fewest edges from one node to each.
 pub fn distances_from<G: Graph>(graph: &G, from: u32) -> Distances
-    ensures { (to : ℕ) → Fewest (edge graph.now) (nodes graph.now) from to (hops_to result to) }
+    ensures { (to : ℕ) → Fewest (G.edge graph.now) (G.nodes graph.now) from to (hops_to result to) }
 {
     let mut row = [UNREACHED; 128];
     if from < graph.node_count() {
@@ -85,7 +85,7 @@ pub fn distances_from<G: Graph>(graph: &G, from: u32) -> Distances
 
 // The fewest edges from one node to another: 0 to itself, none where there is no way or a node is missing.
 pub fn hops<G: Graph>(graph: &G, from: u32, to: u32) -> Option<u32>
-    ensures { Fewest (edge graph.now) (nodes graph.now) from to result }
+    ensures { Fewest (G.edge graph.now) (G.nodes graph.now) from to result }
 {
     distances_from(graph, from).to(to)
 }

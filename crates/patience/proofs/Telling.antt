@@ -9,9 +9,9 @@ use Rattle.model.specs.Waits.{turn_cost, total, hold, patience}
 use Rattle.model.proofs.Walking.{walk_exists}
 use Rattle.model.proofs.Dependencies.{deps_inside}
 use Rattle.routing.specs.declared.fault.RuleFault.{RuleFault}
-use Rattle.check.specs.Findings.{Finding, passed, cycle_in, refused}
+use Rattle.lane_check.specs.Findings.{Finding, passed, cycle_in, refused}
 use Rattle.model.specs.Run.{missing_number}
-use Rattle.check.specs.Checks.{Refuses, Settles, Checked, found}
+use Rattle.lane_check.specs.Checks.{Refuses, Settles, Checked, found}
 use Rattle.patience.specs.Caps.{capped, Row, costs, hold_on}
 use Rattle.patience.specs.Patient.{Patient}
 use Rattle.patience.proofs.Capping.{capped_turn, total_told}

@@ -5,7 +5,7 @@ use Rattle.model.specs.Rules.{Setup}
 use Rattle.model.specs.Run.{missing_number}
 use Rattle.model.specs.Waits.{patience}
 use Rattle.routing.specs.declared.fault.RuleFault.{RuleFault}
-use Rattle.check.specs.Checks.{Checked, Refuses}
+use Rattle.lane_check.specs.Checks.{Checked, Refuses}
 use Rattle.patience.specs.Caps.{capped}
 
 -- Refusal 11 comes first, for what is no pair, and leaves both lists as they were. Else all is as the check does it, and a yes tells

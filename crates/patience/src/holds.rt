@@ -28,7 +28,7 @@ pub(crate) fn counts_of(fabric: &Fabric) -> [u32; 128]
 
 // The hold of a channel by the holds of those that it leads to.
 fn next_hold<G: Graph>(lane: &G, counts: &[u32; 128], holds: &[u32; 128], channel: u32) -> u32
-    ensures { result ≡ heaviest (costs counts.now holds.now) (edge lane.now channel) (nodes lane.now) }
+    ensures { result ≡ heaviest (costs counts.now holds.now) (G.edge lane.now channel) (G.nodes lane.now) }
 {
     let mut most = 1u32;
     for to in 0..lane.node_count() {
@@ -41,7 +41,7 @@ fn next_hold<G: Graph>(lane: &G, counts: &[u32; 128], holds: &[u32; 128], channe
 
 // The holds followed over one dependency more.
 fn next_holds<G: Graph>(lane: &G, counts: &[u32; 128], holds: &[u32; 128]) -> [u32; 128]
-    ensures { Row (λ c. heaviest (costs counts.now holds.now) (edge lane.now c) (nodes lane.now)) (nodes lane.now) result }
+    ensures { Row (λ c. heaviest (costs counts.now holds.now) (G.edge lane.now c) (G.nodes lane.now)) (G.nodes lane.now) result }
 {
     let mut next = [1; 128];
     for channel in 0..lane.node_count() {
@@ -52,7 +52,7 @@ fn next_holds<G: Graph>(lane: &G, counts: &[u32; 128], holds: &[u32; 128]) -> [u
 
 // The holds of a lane's channels.
 pub(crate) fn holds_of<G: Graph>(lane: &G, counts: &[u32; 128]) -> [u32; 128]
-    ensures { Row (λ c. capped (hold_on counts.now (edge lane.now) (nodes lane.now) (nodes lane.now) c)) (nodes lane.now) result }
+    ensures { Row (λ c. capped (hold_on counts.now (G.edge lane.now) (G.nodes lane.now) (G.nodes lane.now) c)) (G.nodes lane.now) result }
 {
     let mut holds = [1; 128];
     for _more in 0..lane.node_count() {

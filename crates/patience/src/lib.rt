@@ -1,4 +1,6 @@
 // How long a packet may have to wait.
+#![tactic(auto)]
+
 mod holds;
 pub mod patience;
 mod routes;

@@ -1,19 +1,19 @@
 ghost use Rattle.std.specs.Prelude.{◌≡◌};
 ghost use Rattle.model.specs.Waits.{patience};
-ghost use Rattle.check.specs.Checks.{setup_of};
+ghost use Rattle.lane_check.specs.Checks.{setup_of};
 ghost use Rattle.patience.specs.Caps.{capped};
 ghost use Rattle.patience.specs.Patient.{Patient};
 
 use crate::holds::{counts_of, holds_of};
 use crate::routes::route_cost;
-use check::lane::noting::dependencies;
-use check::verdict::check;
+use lane_check::lane::noting::dependencies;
+use lane_check::verdict::check;
 use fabric::{CallFault, Fabric};
 use routing::{RouteRule, RuleFault};
 
 // The patience of a pair, or 4,294,967,295 where it is more.
 fn told<R: RouteRule>(fabric: &Fabric, lanes: u32, rule: &R, source: u8, destination: u8) -> u32
-    ensures { result ≡ capped (patience (setup_of fabric.now lanes (maps rule.now)) source destination) }
+    ensures { result ≡ capped (patience (setup_of fabric.now lanes (R.maps rule.now)) source destination) }
 {
     let counts = counts_of(fabric);
     let lane = dependencies(fabric, rule, rule.lane(source, destination) as u32);
@@ -31,7 +31,7 @@ fn pair_patience<R: RouteRule>(
     order: &mut [u8],
     cycle: &mut [u8],
 ) -> Result<u32, RuleFault>
-    ensures { Patient (setup_of fabric.now lanes (maps rule.now)) source destination order.old order.new cycle.old cycle.new result }
+    ensures { Patient (setup_of fabric.now lanes (R.maps rule.now)) source destination order.old order.new cycle.old cycle.new result }
 {
     let switches = fabric.switch_count();
     if source >= switches || destination >= switches || source == destination {
@@ -54,7 +54,7 @@ pub fn patience_of<R: RouteRule>(
     order: &mut [u8],
     cycle: &mut [u8],
 ) -> Result<u32, RuleFault>
-    ensures { Patient (setup_of fabric.now lanes (maps rule.now)) source destination order.old order.new cycle.old cycle.new result }
+    ensures { Patient (setup_of fabric.now lanes (R.maps rule.now)) source destination order.old order.new cycle.old cycle.new result }
 {
     pair_patience(fabric, lanes, rule, source, destination, order, cycle)
 }

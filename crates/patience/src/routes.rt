@@ -18,7 +18,7 @@ pub(crate) fn route_cost<R: RouteRule>(
     source: u8,
     destination: u8,
 ) -> u32
-    ensures { result ≡ capped (1 + total (costs counts.now holds.now) (route (net fabric.now) (maps rule.now) source destination)) }
+    ensures { result ≡ capped (1 + total (costs counts.now holds.now) (route (net fabric.now) (R.maps rule.now) source destination)) }
 {
     let mut cost = 1u32;
     let mut switch = source;

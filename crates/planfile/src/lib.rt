@@ -1,4 +1,6 @@
 // The plan file: a fabric, a lane count and a stored table in a few thousand bytes.
+#![tactic(auto)]
+
 mod bodies;
 pub mod contents;
 pub mod entry;

@@ -38,8 +38,8 @@ fn head(link: Entry, cells: u16) -> [u8; 25]
 
 // The byte of HOPS for a switch and a destination.
 fn hop_byte<R: RouteRule>(rule: &R, switch: u8, destination: u8) -> u8
-    ensures is { result ≡ cell (hop_byte (maps rule.now)) switch destination }
-    ensures named { (switch ≢ destination) → IfSome ((maps rule.now).next switch destination) (λ c. c < 255) }
+    ensures is { result ≡ cell (hop_byte (R.maps rule.now)) switch destination }
+    ensures named { (switch ≢ destination) → IfSome ((R.maps rule.now).next switch destination) (λ c. c < 255) }
 {
     if switch == destination {
         return NONE;
@@ -52,7 +52,7 @@ fn hop_byte<R: RouteRule>(rule: &R, switch: u8, destination: u8) -> u8
 
 // The byte of LANE for a source and a destination.
 fn lane_byte<R: RouteRule>(rule: &R, source: u8, destination: u8) -> u8
-    ensures { result ≡ cell (maps rule.now).lane source destination }
+    ensures { result ≡ cell (R.maps rule.now).lane source destination }
 {
     if source == destination {
         NONE
@@ -65,8 +65,8 @@ fn lane_byte<R: RouteRule>(rule: &R, source: u8, destination: u8) -> u8
 fn write_hops<R: RouteRule>(rule: &R, switches: u8, out: &mut [u8])
     requires size { length out.old ≡ switches * switches }
     requires some { 0 < switches }
-    ensures is { out.new ≡ rows switches (hop_byte (maps rule.now)) }
-    ensures named { Named switches (maps rule.now) }
+    ensures is { out.new ≡ rows switches (hop_byte (R.maps rule.now)) }
+    ensures named { Named switches (R.maps rule.now) }
 {
     let width = switches as usize;
     for k in 0..out.len() {
@@ -78,7 +78,7 @@ fn write_hops<R: RouteRule>(rule: &R, switches: u8, out: &mut [u8])
 fn write_lanes<R: RouteRule>(rule: &R, switches: u8, out: &mut [u8])
     requires size { length out.old ≡ switches * switches }
     requires some { 0 < switches }
-    ensures { out.new ≡ rows switches (maps rule.now).lane }
+    ensures { out.new ≡ rows switches (R.maps rule.now).lane }
 {
     let width = switches as usize;
     for k in 0..out.len() {
@@ -93,7 +93,7 @@ pub fn write<R: RouteRule>(
     rule: &R,
     out: &mut [u8],
 ) -> Result<usize, CallFault>
-    ensures { Writes (net fabric.now) lanes (maps rule.now) out.old out.new result }
+    ensures { Writes (net fabric.now) lanes (R.maps rule.now) out.old out.new result }
 {
     if lanes < 1 || lanes > 8 {
         return Err(CallFault::LaneCount);

@@ -1,4 +1,6 @@
 // The planner: shortest routes, and each pair in the lowest lane that stays without a cycle.
+#![tactic(auto)]
+
 mod choice;
 mod draft;
 pub mod fault;

@@ -1,4 +1,6 @@
 // Route rules: what answers by which channel and in which lane a packet goes on.
+#![tactic(auto)]
+
 pub mod fault;
 pub mod grid;
 pub mod rule;

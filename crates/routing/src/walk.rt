@@ -42,7 +42,7 @@ fn step(fabric: &Fabric, switch: u8, channel: u8) -> Option<Hop>
 
 // The step of a route at this switch: over the rule's channel, if it exists and leaves the switch; none at the destination.
 pub fn next_hop<R: RouteRule>(fabric: &Fabric, rule: &R, switch: u8, destination: u8) -> Option<Hop>
-    ensures is { option_map channel_of result ≡ hop (net fabric.now) (maps rule.now) switch destination }
+    ensures is { option_map channel_of result ≡ hop (net fabric.now) (R.maps rule.now) switch destination }
     ensures leads { IfSome result (Leads (net fabric.now) switch) }
     ensures range { IfSome result (λ x. (x.channel < 128) × (x.to < 32)) }
 {
@@ -55,7 +55,7 @@ pub fn next_hop<R: RouteRule>(fabric: &Fabric, rule: &R, switch: u8, destination
 
 // Takes the steps of a route one after the other, at most one fewer than there are switches.
 fn walk<R: RouteRule>(fabric: &Fabric, rule: &R, source: u8, destination: u8) -> Ending
-    ensures { ending_of result ≡ route_ends (net fabric.now) (maps rule.now) source destination }
+    ensures { ending_of result ≡ route_ends (net fabric.now) (R.maps rule.now) source destination }
 {
     let mut switch = source;
     for _taken in 0..fabric.switch_count() - 1 {
@@ -81,7 +81,7 @@ pub fn route_ending<R: RouteRule>(
     source: u32,
     destination: u32,
 ) -> Option<Ending>
-    ensures { option_map ending_of result ≡ pair_ends (net fabric.now) (maps rule.now) source destination }
+    ensures { option_map ending_of result ≡ pair_ends (net fabric.now) (R.maps rule.now) source destination }
 {
     let switches = fabric.switch_count();
     if source >= switches || destination >= switches || source == destination {

@@ -1,4 +1,6 @@
 // A run: packets under way on a fabric, from slot to slot.
+#![tactic(auto)]
+
 mod board;
 pub mod packet;
 pub mod run;

@@ -31,7 +31,7 @@ fn decoded<R: RouteRule>(
     rule: &R,
     out: &mut [u8],
 ) -> Result<Plan, FileFault>
-    ensures { Keeps (net fabric.now) lanes (maps rule.now) out.old out.new result }
+    ensures { Keeps (net fabric.now) lanes (R.maps rule.now) out.old out.new result }
 {
     let length = write(fabric, lanes, rule, out)?;
     decode(heap, &out[0..length])
@@ -45,7 +45,7 @@ pub fn write_and_decode<R: RouteRule>(
     rule: &R,
     out: &mut [u8],
 ) -> Result<Plan, FileFault>
-    ensures { Keeps (net fabric.now) lanes (maps rule.now) out.old out.new result }
+    ensures { Keeps (net fabric.now) lanes (R.maps rule.now) out.old out.new result }
 {
     decoded(heap, fabric, lanes, rule, out)
 }

@@ -14,7 +14,7 @@ use routing::RouteRule;
 impl<R: RouteRule> Run<'_, R> {
     // The site of a channel and a lane.
     pub(super) fn site(&self, channel: u32, lane: u32) -> Result<Site, CallFault>
-        ensures { Finds (setup_of maps self.now) channel lane result }
+        ensures { Finds (setup_of R.maps self.now) channel lane result }
     {
         if channel >= self.fabric.channel_count() || lane >= self.lanes as u32 {
             return Err(CallFault::MissingNumber);
@@ -32,7 +32,7 @@ impl<R: RouteRule> Run<'_, R> {
 
     // What a slot holds.
     fn held(&self, channel: u32, lane: u32) -> Result<Option<Packet>, CallFault>
-        ensures { look_reply result ≡ Some (slot_shown (setup_of maps self.now) (view self.now.board) channel lane) }
+        ensures { look_reply result ≡ Some (slot_shown (setup_of R.maps self.now) (view self.now.board) channel lane) }
     {
         let site = self.site(channel, lane)?;
         Ok(self.board.slot(site.channel, site.lane).held)
@@ -40,7 +40,7 @@ impl<R: RouteRule> Run<'_, R> {
 
     // What a sender slot holds.
     fn held_by_sender(&self, switch: u32, lane: u32) -> Result<Option<Packet>, CallFault>
-        ensures { look_reply result ≡ Some (sender_shown (setup_of maps self.now) (view self.now.board) switch lane) }
+        ensures { look_reply result ≡ Some (sender_shown (setup_of R.maps self.now) (view self.now.board) switch lane) }
     {
         if switch >= self.fabric.switch_count() || lane >= self.lanes as u32 {
             return Err(CallFault::MissingNumber);
@@ -50,14 +50,14 @@ impl<R: RouteRule> Run<'_, R> {
 
     // What a slot holds.
     pub fn look(&self, channel: u32, lane: u32) -> Result<Option<Packet>, CallFault>
-        ensures { Shows maps self.now (look channel lane) (look_reply result) }
+        ensures { Shows R.maps self.now (look channel lane) (look_reply result) }
     {
         self.held(channel, lane)
     }
 
     // What a sender slot holds.
     pub fn look_sender(&self, switch: u32, lane: u32) -> Result<Option<Packet>, CallFault>
-        ensures { Shows maps self.now (look_sender switch lane) (look_reply result) }
+        ensures { Shows R.maps self.now (look_sender switch lane) (look_reply result) }
     {
         self.held_by_sender(switch, lane)
     }

@@ -8,7 +8,7 @@ use routing::RouteRule;
 impl<'a, R: RouteRule> Run<'a, R> {
     // A run on any rule, accepted or not, with nothing under way.
     pub fn open(fabric: &'a Fabric, lanes: u32, rule: &'a R) -> Result<Run<'a, R>, CallFault>
-        ensures { Opened maps fabric.now lanes rule.now result }
+        ensures { Opened R.maps fabric.now lanes rule.now result }
     {
         if lanes < 1 || lanes > 8 {
             return Err(CallFault::LaneCount);

@@ -12,7 +12,7 @@ use routing::{RouteRule, RuleFault};
 impl<R: RouteRule> Run<'_, R> {
     // The packet from one switch to another.
     fn packet(&self, source: u32, destination: u32, tag: u32) -> Result<Packet, CallFault>
-        ensures { Packs (setup_of maps self.now) (record { source = source; destination = destination; tag = tag }) result }
+        ensures { Packs (setup_of R.maps self.now) (record { source = source; destination = destination; tag = tag }) result }
     {
         let switches = self.fabric.switch_count();
         if source >= switches || destination >= switches || source == destination {
@@ -27,7 +27,7 @@ impl<R: RouteRule> Run<'_, R> {
 
     // The lane of a packet.
     fn lane_for(&self, packet: Packet) -> Result<u8, RuleFault>
-        ensures { Lanes (setup_of maps self.now) (packet_of packet) result }
+        ensures { Lanes (setup_of R.maps self.now) (packet_of packet) result }
     {
         let lane = self.rule.lane(packet.source, packet.destination);
         if lane >= self.lanes {
@@ -39,7 +39,7 @@ impl<R: RouteRule> Run<'_, R> {
     // Puts a packet into its sender slot.
     fn admit(&mut self, packet: Packet, lane: u8) -> Result<(), CallFault>
         requires { (packet.source < 32) × ((packet.destination < 32) × (lane < 8)) }
-        ensures { Admits maps self.old packet lane self.new result }
+        ensures { Admits R.maps self.old packet lane self.new result }
     {
         if self.board.sender(packet.source, lane).is_some() {
             return Err(CallFault::SenderTaken);
@@ -51,7 +51,7 @@ impl<R: RouteRule> Run<'_, R> {
     // Takes a packet in at its source. Refused in this order: two switches that are no pair, a lane that is not below the lane count, a
     // sender slot that is taken.
     pub fn post(&mut self, source: u32, destination: u32, tag: u32) -> Result<(), RuleFault>
-        ensures { Obeys maps self.old (post source destination tag) self.new (post_reply result) }
+        ensures { Obeys R.maps self.old (post source destination tag) self.new (post_reply result) }
     {
         let packet = self.packet(source, destination, tag)?;
         let lane = self.lane_for(packet)?;

@@ -10,7 +10,7 @@ use routing::RouteRule;
 impl<'a, R: RouteRule> Run<'a, R> {
     // Makes one request, and writes down its answer.
     fn note(&mut self, request: Request, written: &mut Answer)
-        ensures { Keeps maps self.old (request_of request) self.new (answer_reply written.new) }
+        ensures { Keeps R.maps self.old (request_of request) self.new (answer_reply written.new) }
     {
         *written = self.answer(request);
     }
@@ -18,7 +18,7 @@ impl<'a, R: RouteRule> Run<'a, R> {
     // Makes all requests in order, and writes their answers to the front of the list.
     fn answer_all(&mut self, requests: &[Request], answers: &mut [Answer])
         requires { length requests.now ≤ length answers.old }
-        ensures { KeepsAll maps self.old (map request_of requests.now) self.new answers.old answers.new }
+        ensures { KeepsAll R.maps self.old (map request_of requests.now) self.new answers.old answers.new }
     {
         for i in 0..requests.len() {
             self.note(requests[i], &mut answers[i]);
@@ -34,7 +34,7 @@ impl<'a, R: RouteRule> Run<'a, R> {
         requests: &[Request],
         answers: &mut [Answer],
     ) -> Result<Run<'a, R>, CallFault>
-        ensures { Replayed maps fabric.now lanes rule.now requests.now answers.old result answers.new }
+        ensures { Replayed R.maps fabric.now lanes rule.now requests.now answers.old result answers.new }
     {
         let mut run = Run::open(fabric, lanes, rule)?;
         if answers.len() < requests.len() {

@@ -40,7 +40,7 @@ fn looked(res: Result<Option<Packet>, CallFault>) -> Answer
 impl<R: RouteRule> Run<'_, R> {
     // Makes one call.
     fn make(&mut self, call: Call) -> Answer
-        ensures { Keeps maps self.old (make (call_of call)) self.new (answer_reply result) }
+        ensures { Keeps R.maps self.old (make (call_of call)) self.new (answer_reply result) }
     {
         match call {
             Call::Post(source, destination, tag) => posted(self.post(source, destination, tag)),
@@ -50,21 +50,21 @@ impl<R: RouteRule> Run<'_, R> {
 
     // Looks at a slot.
     fn show(&self, channel: u32, lane: u32) -> Answer
-        ensures { Keeps maps self.now (look channel lane) self.now (answer_reply result) }
+        ensures { Keeps R.maps self.now (look channel lane) self.now (answer_reply result) }
     {
         looked(self.look(channel, lane))
     }
 
     // Looks at a sender slot.
     fn show_sender(&self, switch: u32, lane: u32) -> Answer
-        ensures { Keeps maps self.now (look_sender switch lane) self.now (answer_reply result) }
+        ensures { Keeps R.maps self.now (look_sender switch lane) self.now (answer_reply result) }
     {
         looked(self.look_sender(switch, lane))
     }
 
     // Makes one request.
     pub fn answer(&mut self, request: Request) -> Answer
-        ensures { Keeps maps self.old (request_of request) self.new (answer_reply result) }
+        ensures { Keeps R.maps self.old (request_of request) self.new (answer_reply result) }
     {
         match request {
             Request::Make(call) => self.make(call),

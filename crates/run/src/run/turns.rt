@@ -26,7 +26,7 @@ fn position_after(k: u32, p: u8) -> u8
 impl<R: RouteRule> Run<'_, R> {
     // What stands at position p.
     fn waiting(&self, site: Site, p: u8) -> Option<Packet>
-        requires { Sited (setup_of maps self.now) site }
+        requires { Sited (setup_of R.maps self.now) site }
         ensures { option_map packet_of result ≡ held_at (view self.now.board) site.start site.lane (position_at (net self.now.fabric.now) site.channel p) }
     {
         match self.fabric.position(site.channel as u32, p as u32) {
@@ -38,7 +38,7 @@ impl<R: RouteRule> Run<'_, R> {
 
     // Whether the rule answers this channel for a packet at this switch.
     fn leads(&self, switch: u8, destination: u8, channel: u8) -> bool
-        ensures { result ≡ names ((maps self.now.rule.now).next switch destination) channel }
+        ensures { result ≡ names ((R.maps self.now.rule.now).next switch destination) channel }
     {
         match self.rule.channel(switch, destination) {
             Some(answered) => answered == channel,
@@ -49,8 +49,8 @@ impl<R: RouteRule> Run<'_, R> {
     // Whether position p has a packet for the site: one that is not destined for the switch where it stands, and that the rule sends
     // on by this channel.
     fn contends(&self, site: Site, p: u8) -> bool
-        requires { Sited (setup_of maps self.now) site }
-        ensures { result ≡ contending maps self.now site p }
+        requires { Sited (setup_of R.maps self.now) site }
+        ensures { result ≡ contending R.maps self.now site p }
     {
         match self.waiting(site, p) {
             None => false,
@@ -63,8 +63,8 @@ impl<R: RouteRule> Run<'_, R> {
 
     // The first contending position from this one on, going round.
     fn first_from(&self, site: Site, from: u8) -> Option<u8>
-        requires { Sited (setup_of maps self.now) site }
-        ensures { result ≡ first_from (contending maps self.now site) (positions_of maps self.now site) from (positions_of maps self.now site) }
+        requires { Sited (setup_of R.maps self.now) site }
+        ensures { result ≡ first_from (contending R.maps self.now site) (positions_of R.maps self.now site) from (positions_of R.maps self.now site) }
     {
         let k = self.fabric.position_count(site.channel as u32);
         let mut p = from;
@@ -79,16 +79,16 @@ impl<R: RouteRule> Run<'_, R> {
 
     // The first contending position from the turn mark on, going round.
     pub(super) fn first_contending(&self, site: Site) -> Option<u8>
-        requires { Sited (setup_of maps self.now) site }
-        ensures { result ≡ granted (λ x. x) (λ x. x) (setup_of maps self.now) (view self.now.board) site.channel site.lane }
+        requires { Sited (setup_of R.maps self.now) site }
+        ensures { result ≡ granted (λ x. x) (λ x. x) (setup_of R.maps self.now) (view self.now.board) site.channel site.lane }
     {
         self.first_from(site, self.board.slot(site.channel, site.lane).mark)
     }
 
     // Empties position p.
     fn clear(&mut self, site: Site, p: u8)
-        requires { Sited (setup_of maps self.old) site }
-        ensures same { setup_of maps self.new ≡ setup_of maps self.old }
+        requires { Sited (setup_of R.maps self.old) site }
+        ensures same { setup_of R.maps self.new ≡ setup_of R.maps self.old }
         ensures clears { view self.new.board ≡ cleared (view self.old.board) site.start site.lane (position_at (net self.old.fabric.now) site.channel p) }
     {
         match self.fabric.position(site.channel as u32, p as u32) {
@@ -100,9 +100,9 @@ impl<R: RouteRule> Run<'_, R> {
 
     // Moves what stands at position p into the slot, and passes the turn on.
     pub(super) fn grant(&mut self, site: Site, p: u8)
-        requires { Sited (setup_of maps self.old) site }
-        ensures same { setup_of maps self.new ≡ setup_of maps self.old }
-        ensures moves { view self.new.board ≡ advanced (λ x. x) (λ x. x) (setup_of maps self.old) (view self.old.board) site.channel site.lane p }
+        requires { Sited (setup_of R.maps self.old) site }
+        ensures same { setup_of R.maps self.new ≡ setup_of R.maps self.old }
+        ensures moves { view self.new.board ≡ advanced (λ x. x) (λ x. x) (setup_of R.maps self.old) (view self.old.board) site.channel site.lane p }
     {
         let packet = self.waiting(site, p);
         self.clear(site, p);

@@ -1,6 +1,6 @@
 use Rattle.std.proofs.Common.{arith}
-use Rattle.check.specs.Answers.{accepted}
-use Rattle.check.specs.Checks.{setup_of}
+use Rattle.lane_check.specs.Answers.{accepted}
+use Rattle.lane_check.specs.Checks.{setup_of}
 use Rattle.patience.proofs.Telling.{refuses, answers}
 use Rattle.patience.proofs.patience.pair_patience.Goals as goal
 

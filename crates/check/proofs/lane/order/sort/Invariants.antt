@@ -1,6 +1,0 @@
-use Rattle.check.specs.Cells.{edge_at}
-use Rattle.check.proofs.Sorting.{Turned}
-use Rattle.check.proofs.lane.order.sort.Given as goal
-
-abbrev pub invariant-loop-k : goal.invariant-loop-k
-invariant-loop-k l = Turned l.lane.channels (edge_at l.lane.cells) l.list l.waits l.watch l.k

@@ -1,0 +1,150 @@
+-- From the cells of a lane to the model's dependencies, and from lane to lane.
+use Rattle.std.proofs.Common.{◌≡◌, ℕ, zero, suc, ◌+◌, ◌-◌, ◌*◌, ◌<◌, ◌≤◌, Bool, true, false, ◌&&◌, leb, List, [], ◌∷◌, ◌++◌, length, take, drop, Some, None, sym, refl, ap, ◌∙◌, subst, mul-le-mul_right, suc-mul, add-one, arith}
+use Rattle.std.proofs.lemmas.List.{append_assoc, append-nil, length-append, take_at, drop_at, drop-drop}
+use Rattle.std.proofs.lemmas.Bool.{both_ways}
+use Rattle.model.specs.Lists.{up_from, below, joined, different}
+use Rattle.model.specs.Net.{Net, count}
+use Rattle.model.specs.Rules.{Rule, Setup}
+use Rattle.model.specs.Routes.{lane_deps, depends, chained, closed, is_cycle}
+use Rattle.model.specs.Order.{completes, order_of, lane_order}
+use Rattle.model.specs.Verdicts.{Accepts, Verdict, fine, cyclic, lanes_verdict}
+use Rattle.model.proofs.Dependencies.{deps_inside}
+use Rattle.model.proofs.Ordering.{order_exact_lem}
+use Rattle.model.proofs.Cycles.{cycle_exact_lem}
+use Rattle.model.proofs.Judging.{accepted_completes}
+use Rattle.fabric.specs.Channels.{Inside}
+use Rattle.lane_check.specs.Cells.{edge_at}
+use Rattle.lane_check.specs.Orders.{Sorted}
+use Rattle.lane_check.specs.Circles.{Looped}
+use Rattle.lane_check.proofs.Listing.{up_from_more, up_from_none}
+use Rattle.lane_check.proofs.Apart.{lane_apart}
+
+-- Tests that answer alike have the same cycles.
+module _ (e h : ℕ → ℕ → Bool) (same : (b c : ℕ) → e b c ≡ h b c) where
+  chained_same : (a c : ℕ) (cs : List ℕ) → chained e a c cs ≡ chained h a c cs
+  chained_same a c [] = same c a
+  chained_same a c (c' ∷ cs) =
+      ap (λ (t : Bool). t && chained e a c' cs) (same c c') ∙ ap (λ (t : Bool). h c c' && t) (chained_same a c' cs)
+
+  closed_same : (cs : List ℕ) → closed e cs ≡ closed h cs
+  closed_same [] = refl
+  closed_same (c ∷ cs) = chained_same c c cs
+
+  cycle_same : (cs : List ℕ) → is_cycle e cs ≡ is_cycle h cs
+  cycle_same cs = ap (λ (t : Bool). leb 2 (length cs) && different cs && t) (closed_same cs)
+
+  pub looped_same : (k : ℕ) (was is : List ℕ) → Looped e k was is → Looped h k was is
+  looped_same k was is L = record { cycle = L.cycle; round = sym (cycle_same L.cycle) ∙ L.round; size = L.size; list = L.list }
+
+module _ (net : Net) (rule : Rule) (ℓ n : ℕ) (cells : List Bool) (size : n ≡ count net) (each : (b c : ℕ) → edge_at cells b c ≡ depends net rule ℓ b c) where
+  pub cells_inside : (b c : ℕ) → edge_at cells b c ≡ true → (b < n) × (c < n)
+  cells_inside b c t = let p = deps_inside net rule ℓ b c (sym (each b c) ∙ t) in (omega arith, omega arith)
+
+  pub cells_cycle : Inside net.switches net.channels → Sorted n (lane_deps net rule ℓ) None → (cs : List ℕ) × (is_cycle (edge_at cells) cs ≡ true)
+  cells_cycle inside s =
+      let es = lane_deps net rule ℓ in
+      let r =
+      (cycle_exact_lem (count net) es (record { inside = deps_inside net rule ℓ; apart = lane_apart net rule inside ℓ })).1
+      (subst (λ (m : ℕ). completes m es ≡ false) size s) in
+      (r.0, cycle_same (edge_at cells) (depends net rule ℓ) each r.0 ∙ r.1)
+
+  pub cells_order : (list : List ℕ) → Sorted n (lane_deps net rule ℓ) (Some list) → take (count net) list ≡ lane_order net rule ℓ
+  cells_order list s = subst (λ (m : ℕ). take m list ≡ order_of m (lane_deps net rule ℓ)) size s.1
+
+-- A loop over the lanes: those below i have no cycle.
+module _ (net : Net) (rule : Rule) (lanes : ℕ) where
+  abbrev pub Clear : ℕ → Type 0
+  Clear i = lanes_verdict net rule (below lanes) ≡ lanes_verdict net rule (up_from (lanes - i) i)
+
+  pub clear_none : Clear 0
+  clear_none = ap (λ (m : ℕ). lanes_verdict net rule (up_from m 0)) (all lanes)
+    where
+      all : (m : ℕ) → m ≡ m - 0
+      all m = omega arith
+
+  next : (i : ℕ) (b : Bool) → i < lanes → Clear i → completes (count net) (lane_deps net rule i) ≡ b
+      → lanes_verdict net rule (below lanes)
+      ≡ elim b as (λ _. Verdict) [ true ↦ lanes_verdict net rule (up_from (lanes - (i + 1)) (i + 1)) | false ↦ cyclic i ]
+  next i b h C s =
+      C ∙ ap (lanes_verdict net rule) (up_from_more (lanes - i) (lanes - (i + 1)) i (omega arith))
+      ∙ ap (λ (t : Bool). elim t as (λ _. Verdict) [ true ↦ lanes_verdict net rule (up_from (lanes - (i + 1)) (i + 1)) | false ↦ cyclic i ]) s
+
+  pub clear_more : (i n : ℕ) (list : List ℕ) → i < lanes → n ≡ count net → Clear i → Sorted n (lane_deps net rule i) (Some list) → Clear (i + 1)
+  clear_more i n list h q C s = next i true h C (subst (λ (m : ℕ). completes m (lane_deps net rule i) ≡ true) q s.0)
+
+  pub clear_cyclic : (i n : ℕ) → i < lanes → n ≡ count net → Clear i → Sorted n (lane_deps net rule i) None
+      → lanes_verdict net rule (below lanes) ≡ cyclic i
+  clear_cyclic i n h q C s = next i false h C (subst (λ (m : ℕ). completes m (lane_deps net rule i) ≡ false) q s)
+
+  pub clear_all : (i : ℕ) → lanes ≤ i → Clear i → lanes_verdict net rule (below lanes) ≡ fine
+  clear_all i h C = C ∙ ap (lanes_verdict net rule) (up_from_none (lanes - i) i (omega arith))
+
+-- The orders of the lanes below i stand at the front of the list.
+module _ (g : Setup) where
+  abbrev orders_to : ℕ → List ℕ
+  orders_to i = joined (lane_order g.net g.rule) (below i)
+
+  abbrev pub Wrote : List ℕ → ℕ → List ℕ → Type 0
+  Wrote was i is = is ≡ orders_to i ++ drop (i * count g.net) was
+
+  pub wrote_none : (was : List ℕ) → Wrote was 0 was
+  wrote_none was = ap (λ (k : ℕ). drop k was) (none (count g.net))
+    where
+      none : (n : ℕ) → 0 ≡ 0 * n
+      none n = omega arith
+
+  joined_last : (f : ℕ → List ℕ) (k i : ℕ) → joined f (up_from (suc k) i) ≡ joined f (up_from k i) ++ f (i + k)
+  joined_last f zero i = append-nil (f i) ∙ ap f (more i)
+    where
+      more : (i : ℕ) → i ≡ i + 0
+      more i = omega arith
+  joined_last f (suc k) i =
+      ap (λ (z : List ℕ). f i ++ z) (joined_last f k (suc i) ∙ ap (λ (j : ℕ). joined f (up_from k (suc i)) ++ f j) (over i k))
+      ∙ sym (append_assoc (f i) (joined f (up_from k (suc i))) (f (i + suc k)))
+    where
+      over : (i k : ℕ) → suc i + k ≡ i + suc k
+      over i k = omega arith
+
+  orders_more : (i : ℕ) → orders_to (suc i) ≡ orders_to i ++ lane_order g.net g.rule i
+  orders_more i = joined_last (lane_order g.net g.rule) i 0 ∙ ap (λ (j : ℕ). orders_to i ++ lane_order g.net g.rule j) (same i)
+    where
+      same : (i : ℕ) → 0 + i ≡ i
+      same i = omega arith
+
+  orders_length : Accepts g → (i : ℕ) → i ≤ g.lanes → length (orders_to i) ≡ i * count g.net
+  orders_length A zero h = omega arith
+  orders_length A (suc i) h =
+      let n : ℕ = count g.net in
+      let es = lane_deps g.net g.rule i in
+      let all = orders_length A i (omega arith) in
+      let one = (order_exact_lem n es (accepted_completes g A i h)).size in
+      ap length (orders_more i) ∙ length-append (orders_to i) (lane_order g.net g.rule i) ∙ omega (arith, suc-mul i n)
+
+  pub wrote_more : (i : ℕ) (was cur nxt part : List ℕ) → Accepts g → i < g.lanes → Wrote was i cur → part ≡ lane_order g.net g.rule i
+      → nxt ≡ take (i * count g.net) cur ++ (part ++ drop (i * count g.net + count g.net) cur) → Wrote was (i + 1) nxt
+  wrote_more i was cur nxt part A h e p q =
+      let n : ℕ = count g.net in
+      let front = orders_to i in
+      let mine = lane_order g.net g.rule i in
+      let len = orders_length A i (omega arith) in
+      let a : take (i * n) cur ≡ front = ap (take (i * n)) e ∙ take_at front (drop (i * n) was) (i * n) len in
+      let b : drop (i * n) cur ≡ drop (i * n) was = ap (drop (i * n)) e ∙ drop_at front (drop (i * n) was) (i * n) len in
+      let c : drop (i * n + n) cur ≡ drop (i * n + n) was = sym (drop-drop n (i * n) cur) ∙ ap (drop n) b ∙ drop-drop n (i * n) was in
+      let d : i * n + n ≡ (i + 1) * n = sym (suc-mul i n) ∙ ap (λ (z : ℕ). z * n) (sym (add-one i)) in
+      q ∙ ap (λ (z : List ℕ). z ++ (part ++ drop (i * n + n) cur)) a
+      ∙ ap (λ (z : List ℕ). front ++ (z ++ drop (i * n + n) cur)) p
+      ∙ ap (λ (z : List ℕ). front ++ (mine ++ z)) (c ∙ ap (λ (k : ℕ). drop k was) d)
+      ∙ sym (append_assoc front mine (drop ((i + 1) * n) was))
+      ∙ ap (λ (z : List ℕ). z ++ drop ((i + 1) * n) was) (sym (ap orders_to (add-one i) ∙ orders_more i))
+
+  -- An accepted setup leaves no lane without its order.
+  pub never_stuck : Accepts g → (i n : ℕ) → i < g.lanes → n ≡ count g.net → Sorted n (lane_deps g.net g.rule i) None → ⊥
+  never_stuck A i n h q s =
+      both_ways (completes (count g.net) (lane_deps g.net g.rule i))
+      (subst (λ (m : ℕ). completes m (lane_deps g.net g.rule i) ≡ false) q s) (accepted_completes g A i h)
+
+-- The part of lane i ends within the list.
+pub lane_room : (i lanes n m l : ℕ) → i < lanes → m ≡ n → lanes * n ≤ l → i * m + m ≤ l
+lane_room i lanes n m l h q r =
+    let k : suc i * n ≤ lanes * n = mul-le-mul_right n h in
+    subst (λ (z : ℕ). i * z + z ≤ l) (sym q) (omega (arith, suc-mul i n))

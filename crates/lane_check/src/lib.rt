@@ -1,0 +1,15 @@
+// The check of a route rule over a fabric: every pair arrives, in a lane below the lane count, and the channels of no lane wait for
+// each other in a circle.
+#![tactic(auto)]
+
+pub mod lane;
+mod pairs;
+pub mod verdict;
+mod walk;
+
+pub use lane::Dependencies;
+pub use lane::noting::dependencies;
+pub use verdict::{Accepted, check, showing};
+
+#[cfg(test)]
+mod tests;

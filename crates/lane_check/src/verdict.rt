@@ -1,0 +1,99 @@
+ghost use Rattle.std.specs.Prelude.{◌≡◌, length, Ok, Err};
+ghost use Rattle.model.specs.Net.{count};
+ghost use Rattle.fabric.specs.Faults.{call_refusal};
+ghost use Rattle.fabric.specs.Of.{net};
+ghost use Rattle.lane_check.specs.Checks.{setup_of, few_lanes, long_enough, Checked, YesExactly};
+ghost use Rattle.lane_check.specs.Answers.{accepted, part};
+
+use crate::pairs::pairs_fault;
+use crate::verdict::lanes::settle_lanes;
+use fabric::{CallFault, Fabric};
+use routing::{RouteRule, RuleFault};
+
+pub(crate) mod lanes;
+
+// A yes: how many lanes the order list holds, and how many channels each has.
+#[derive(Clone, Copy, PartialEq, Eq, Debug)]
+pub struct Accepted {
+    lanes: u8,
+    channels: u8,
+}
+
+// Whether the lane count is 1 to 8.
+fn few_lanes(lanes: u32) -> bool
+    ensures { result ≡ few_lanes lanes }
+{
+    1 <= lanes && lanes <= 8
+}
+
+// Whether the order list has a byte for each channel of each lane, and the cycle list one for each channel.
+fn long_enough(fabric: &Fabric, lanes: u32, order: &[u8], cycle: &[u8]) -> bool
+    ensures { result ≡ long_enough lanes (count (net fabric.now)) (length order.now) (length cycle.now) }
+{
+    let channels = fabric.channel_count() as usize;
+    lanes as usize * channels <= order.len() && channels <= cycle.len()
+}
+
+// The check: whether every pair arrives, in a lane below the count, and no lane has a cycle. A yes writes the channels of lane 0, lane
+// 1 and so on to the front of the order list, each lane in its order. A cycle is written to the front of the cycle list. Every other
+// byte stays as it was.
+pub fn check<R: RouteRule>(
+    fabric: &Fabric,
+    lanes: u32,
+    rule: &R,
+    order: &mut [u8],
+    cycle: &mut [u8],
+) -> Result<Accepted, RuleFault>
+    ensures exact { Checked (Ok (accepted (setup_of fabric.now lanes (R.maps rule.now)))) (λ f. Err f) (setup_of fabric.now lanes (R.maps rule.now)) order.old order.new cycle.old cycle.new result }
+    ensures accepts { YesExactly (Ok (accepted (setup_of fabric.now lanes (R.maps rule.now)))) (setup_of fabric.now lanes (R.maps rule.now)) (length order.old) (length cycle.old) result }
+{
+    if !few_lanes(lanes) {
+        return Err(RuleFault::Call(CallFault::LaneCount));
+    }
+    if !long_enough(fabric, lanes, order, cycle) {
+        return Err(RuleFault::Call(CallFault::ShortList));
+    }
+    if let Some(fault) = pairs_fault(fabric, lanes, rule) {
+        return Err(fault);
+    }
+    if let Some(found) = settle_lanes(fabric, lanes, rule, order, cycle) {
+        return Err(RuleFault::Cyclic(found.lane, found.length));
+    }
+    Ok(Accepted {
+        lanes: lanes as u8,
+        channels: fabric.channel_count() as u8,
+    })
+}
+
+// What shows a verdict of the check: after a yes the named lane's part of the order list, after a cycle its part of the cycle list,
+// and after any other refusal no bytes.
+pub fn showing<'a>(
+    verdict: &Result<Accepted, RuleFault>,
+    lane: u32,
+    order: &'a [u8],
+    cycle: &'a [u8],
+) -> Result<&'a [u8], CallFault>
+    ensures { elim result [ Ok p ↦ part verdict.now lane order.now cycle.now ≡ Ok p.now | Err f ↦ part verdict.now lane order.now cycle.now ≡ Err (call_refusal f) ] }
+{
+    match verdict {
+        Ok(accepted) => {
+            if lane >= accepted.lanes as u32 {
+                return Err(CallFault::MissingNumber);
+            }
+            let from = lane as usize * accepted.channels as usize;
+            let to = from + accepted.channels as usize;
+            if order.len() < to {
+                return Err(CallFault::ShortList);
+            }
+            Ok(&order[from..to])
+        }
+        Err(RuleFault::Cyclic(_, length)) => {
+            let length = *length as usize;
+            if cycle.len() < length {
+                return Err(CallFault::ShortList);
+            }
+            Ok(&cycle[0..length])
+        }
+        Err(_) => Ok(&cycle[0..0]),
+    }
+}
