@@ -8,7 +8,7 @@ use Rattle.routing.proofs.walk.step.Goals as goal
 pub returns : goal.returns
 returns c =
     let n : Net = net c.args.fabric.now in
-    let j = c.in-ok-joined.ensures.joins in
+    let j = c.in_ok-joined.ensures.joins in
     let from : start_of n c.args.channel ≡ c.args.switch = omega (arith, j.leaves) in
     let size = count_over c.args.fabric.now.switches (vec_items c.args.fabric.now.channels) in
     record {

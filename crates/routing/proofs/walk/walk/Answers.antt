@@ -11,23 +11,23 @@ returns-then-switch-destination g c =
     let n : Net = net c.args.fabric.now in
     let rule : Rule = g.R.RouteRule.maps c.args.rule.now in
     let ending : Ending = route_ends n rule c.args.source c.args.destination in
-    ends_home n rule (n.switches - 1 - c.loop-taken.-taken) c.loop-taken.switch c.args.destination ending c.if-switch-destination.true c.loop-taken.invariant
+    ends_home n rule (n.switches - 1 - c.loop-taken._taken) c.loop-taken.switch c.args.destination ending c.if-switch-destination.true c.loop-taken.invariant
 
-pub returns-in-default : goal.returns-in-default
-returns-in-default g c =
+pub returns-in_default : goal.returns-in_default
+returns-in_default g c =
     let n : Net = net c.args.fabric.now in
     let rule : Rule = g.R.RouteRule.maps c.args.rule.now in
     let ending : Ending = route_ends n rule c.args.source c.args.destination in
-    ends_stopped n rule (n.switches - 1 - c.loop-taken.-taken) c.loop-taken.switch c.args.destination ending (omega arith)
-    c.if-switch-destination.false c.in-default.ensures.is c.loop-taken.invariant
+    ends_stopped n rule (n.switches - 1 - c.loop-taken._taken) c.loop-taken.switch c.args.destination ending (omega arith)
+    c.if-switch-destination.false c.in_default.ensures.is c.loop-taken.invariant
 
 pub loop-taken-preserved : goal.loop-taken-preserved
 loop-taken-preserved g c =
     let n : Net = net c.args.fabric.now in
     let rule : Rule = g.R.RouteRule.maps c.args.rule.now in
     let ending : Ending = route_ends n rule c.args.source c.args.destination in
-    let k : ℕ = n.switches - 1 - c.loop-taken.-taken in
-    let j : ℕ = n.switches - 1 - (c.loop-taken.-taken + 1) in
+    let k : ℕ = n.switches - 1 - c.loop-taken._taken in
+    let j : ℕ = n.switches - 1 - (c.loop-taken._taken + 1) in
     ends_on n rule k j c.loop-taken.switch c.args.destination c.in-Some.hop.channel c.in-Some.hop.to ending (omega arith)
     c.in-Some.ensures.is c.in-Some.ensures.leads.ends c.loop-taken.invariant
 
@@ -36,12 +36,12 @@ returns-then-switch-destination-2 g c =
     let n : Net = net c.args.fabric.now in
     let rule : Rule = g.R.RouteRule.maps c.args.rule.now in
     let ending : Ending = route_ends n rule c.args.source c.args.destination in
-    ends_home n rule (n.switches - 1 - c.loop-taken.-taken) c.loop-taken.switch c.args.destination ending c.if-switch-destination-2.true c.loop-taken.invariant
+    ends_home n rule (n.switches - 1 - c.loop-taken._taken) c.loop-taken.switch c.args.destination ending c.if-switch-destination-2.true c.loop-taken.invariant
 
 pub returns-else-switch-destination-2 : goal.returns-else-switch-destination-2
 returns-else-switch-destination-2 g c =
     let n : Net = net c.args.fabric.now in
     let rule : Rule = g.R.RouteRule.maps c.args.rule.now in
     let ending : Ending = route_ends n rule c.args.source c.args.destination in
-    ends_tired n rule (n.switches - 1 - c.loop-taken.-taken) c.loop-taken.switch c.args.destination ending (omega arith)
+    ends_tired n rule (n.switches - 1 - c.loop-taken._taken) c.loop-taken.switch c.args.destination ending (omega arith)
     c.if-switch-destination-2.false c.loop-taken.invariant

@@ -7,9 +7,9 @@ use Rattle.fabric.specs.Feeders.{feeders_from, feeder_here, feeder_elsewhere, fe
 use Rattle.fabric.proofs.network.Fabric.count_positions.Goals as goal
 use Rattle.fabric.proofs.network.Fabric.count_positions.Goals.{then-from-served, else-from-served}
 
-pub returns-in-default : goal.returns-in-default
-returns-in-default c =
-    record { is = sym (ap length (positions_none (net c.args.self.now) c.args.channel c.in-default.ensures.joins)); range = omega arith }
+pub returns-in_default : goal.returns-in_default
+returns-in_default c =
+    record { is = sym (ap length (positions_none (net c.args.self.now) c.args.channel c.in_default.ensures.joins)); range = omega arith }
 
 pub loop-from-init : goal.loop-from-init
 loop-from-init c = (omega arith, refl)
@@ -17,7 +17,7 @@ loop-from-init c = (omega arith, refl)
 pub loop-from-preserved : goal.loop-from-preserved
 loop-from-preserved c =
     let i : ℕ = c.loop-from.from-index in
-    let xs : List Channel = c.as-slice-from-items.result.now in
+    let xs : List Channel = c.as_slice-from-items.result.now in
     let u : ℕ = c.in-Some.served.start in
     elim c.if-from-served.branch [
       | then-from-served w ↦
@@ -31,8 +31,8 @@ loop-from-preserved c =
 pub returns : goal.returns
 returns c =
     let f : Fabric = c.args.self.now in
-    let xs : List Channel = c.as-slice-from-items.result.now in
-    let same : xs ≡ vec_items f.channels = c.as-slice-from-items.ensures.value in
+    let xs : List Channel = c.as_slice-from-items.result.now in
+    let same : xs ≡ vec_items f.channels = c.as_slice-from-items.ensures.value in
     let j = c.in-Some.ensures.joins in
     let h : c.args.channel < length (vec_items f.channels) = omega (arith, j.there, count_over f.switches (vec_items f.channels)) in
     let all = ap length (positions_are f.switches c.args.channel (vec_items f.channels) h) in

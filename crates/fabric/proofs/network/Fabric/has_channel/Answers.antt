@@ -8,7 +8,7 @@ use Rattle.fabric.proofs.network.Fabric.has_channel.Goals.{else-channel-from-via
 
 pub returns-then-channel-to : goal.returns-then-channel-to
 returns-then-channel-to c =
-    let same = ap (λ (xs : List Channel). any_of (goes c.args.from c.args.to) (map plain xs)) c.as-slice-channel-items.ensures.value in
+    let same = ap (λ (xs : List Channel). any_of (goes c.args.from c.args.to) (map plain xs)) c.as_slice-channel-items.ensures.value in
     sym (sym same ∙ (c.loop-channel.invariant ∙ joins_here _ _ _ _ c.loop-channel-test.true c.if-channel-from.true c.if-channel-to.true))
 
 pub loop-channel-preserved : goal.loop-channel-preserved
@@ -20,5 +20,5 @@ loop-channel-preserved c =
 
 pub returns : goal.returns
 returns c =
-    let same = ap (λ (xs : List Channel). any_of (goes c.args.from c.args.to) (map plain xs)) c.as-slice-channel-items.ensures.value in
+    let same = ap (λ (xs : List Channel). any_of (goes c.args.from c.args.to) (map plain xs)) c.as_slice-channel-items.ensures.value in
     sym (sym same ∙ (c.loop-channel.invariant ∙ joins_end _ _ _ _ c.loop-channel-test.false))

@@ -24,39 +24,39 @@ at_more f c i u h z e =
     ∙ ap (λ (ps : List Position). slice_get ps (suc (i - 1))) (positions_are f.switches c (items f) h)
     ∙ ap (λ (v : ℕ). slice_get (feeders_from v 0 (items f)) (i - 1)) (sym e)
 
-pub returns-in-err-served : goal.returns-in-err-served
-returns-in-err-served c =
-    let e : positions (net c.args.self.now) c.args.channel ≡ [] = positions_none (net c.args.self.now) c.args.channel c.in-err-served.ensures.joins in
-    simp (c.from-residual.ensures, e) (record { is = refl; stands = omega arith })
+pub returns-in_err-served : goal.returns-in_err-served
+returns-in_err-served c =
+    let e : positions (net c.args.self.now) c.args.channel ≡ [] = positions_none (net c.args.self.now) c.args.channel c.in_err-served.ensures.joins in
+    simp (c.from_residual.ensures, e) (record { is = refl; stands = omega arith })
 
 pub returns-then-i-eq0 : goal.returns-then-i-eq0
 returns-then-i-eq0 c =
-    let there = c.in-ok-served.ensures.joins.there in
+    let there = c.in_ok-served.ensures.joins.there in
     let h : c.args.channel < length (items c.args.self.now) = omega (arith, there, count_over c.args.self.now.switches (items c.args.self.now)) in
     record { is = sym (at_zero c.args.self.now c.args.channel c.args.i h c.if-i-eq0.true); stands = there }
 
 pub index-requires : goal.index-requires
-index-requires c = omega (arith, c.channel-total-from-end.ensures.is, count_over c.args.self.now.switches (items c.args.self.now))
+index-requires c = omega (arith, c.channel_total-from-end.ensures.is, count_over c.args.self.now.switches (items c.args.self.now))
 
 pub returns-then-ahead-eq0 : goal.returns-then-ahead-eq0
 returns-then-ahead-eq0 c =
     let f : Fabric = c.args.self.now in
     let size = count_over f.switches (items f) in
-    let j = c.in-ok-served.ensures.joins in
+    let j = c.in_ok-served.ensures.joins in
     let h : c.args.channel < length (items f) = omega (arith, j.there) in
-    let l : c.loop-from.from < length (items f) = omega (arith, c.channel-total-from-end.ensures.is) in
+    let l : c.loop-from.from < length (items f) = omega (arith, c.channel_total-from-end.ensures.is) in
     let e : c.index.result.now ≡ get_or (items f) c.loop-from.from blank = get_or_read (items f) _ _ l c.index.ensures blank in
-    let q : (get_or (items f) c.loop-from.from blank).finish ≡ c.in-ok-served.served.start = ap (λ (x : Channel). x.finish) (sym e) ∙ c.if-index-served.true in
+    let q : (get_or (items f) c.loop-from.from blank).finish ≡ c.in_ok-served.served.start = ap (λ (x : Channel). x.finish) (sym e) ∙ c.if-index-served.true in
     record {
       is = sym (at_more f c.args.channel c.args.i _ h c.if-i-eq0.false j.leaves ∙ (c.loop-from.invariant ∙ at_here _ _ _ (items f) l q c.if-ahead-eq0.true));
-      stands = (j.there, omega (arith, c.channel-total-from-end.ensures.is), finish_over f.switches c.loop-from.from (items f) l ∙ (q ∙ j.leaves));
+      stands = (j.there, omega (arith, c.channel_total-from-end.ensures.is), finish_over f.switches c.loop-from.from (items f) l ∙ (q ∙ j.leaves));
     }
 
 pub loop-from-preserved : goal.loop-from-preserved
 loop-from-preserved c =
     let f : Fabric = c.args.self.now in
     let size = count_over f.switches (items f) in
-    let l : c.loop-from.from < length (items f) = omega (arith, c.channel-total-from-end.ensures.is) in
+    let l : c.loop-from.from < length (items f) = omega (arith, c.channel_total-from-end.ensures.is) in
     let e : c.index.result.now ≡ get_or (items f) c.loop-from.from blank = get_or_read (items f) _ _ l c.index.ensures blank in
     let d : c.index.result.now.finish ≡ (get_or (items f) c.loop-from.from blank).finish = ap (λ (x : Channel). x.finish) e in
     elim c.if-index-served.branch [
@@ -72,9 +72,9 @@ pub returns : goal.returns
 returns c =
     let f : Fabric = c.args.self.now in
     let size = count_over f.switches (items f) in
-    let j = c.in-ok-served.ensures.joins in
+    let j = c.in_ok-served.ensures.joins in
     let h : c.args.channel < length (items f) = omega (arith, j.there) in
-    let l : length (items f) ≤ c.loop-from.from = omega (arith, c.channel-total-from-end.ensures.is) in
+    let l : length (items f) ≤ c.loop-from.from = omega (arith, c.channel_total-from-end.ensures.is) in
     let none : position_at (net f) c.args.channel c.args.i ≡ None =
     at_more f c.args.channel c.args.i _ h c.if-i-eq0.false j.leaves
     ∙ (c.loop-from.invariant ∙ ap (λ (ps : List Position). slice_get ps c.loop-from.ahead) (feeders_end _ _ (items f) l)) in

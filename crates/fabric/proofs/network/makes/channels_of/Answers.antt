@@ -9,7 +9,7 @@ loop-link-preserved c =
     let i : ℕ = c.loop-link.link in
     let h : 2 * i + 1 < length ends = omega arith in
     channels_more ends i _ _ h
-    (pushed (back ends i ∷ []) (pushed (there ends i ∷ []) refl c.in-ok-push.was c.push.ensures.items) c.in-ok-push-2.was c.push-in-loop-link.ensures.items)
+    (pushed (back ends i ∷ []) (pushed (there ends i ∷ []) refl c.in_ok-push.was c.push.ensures.items) c.in_ok-push-2.was c.push-in-loop-link.ensures.items)
     c.loop-link.invariant
 
 pub returns : goal.returns
