@@ -17,12 +17,12 @@ returns-in-Tires g c =
     pair_tires (net c.args.fabric.now) c.args.lanes (g.R.RouteRule.maps c.args.rule.now) c.args.source c.args.destination
     c.if-source-destination.false c.in-Tires.ensures
 
-pub returns-then-is-laned : goal.returns-then-is-laned
-returns-then-is-laned g c =
+pub returns-then-is_laned : goal.returns-then-is_laned
+returns-then-is_laned g c =
     pair_passes (net c.args.fabric.now) c.args.lanes (g.R.RouteRule.maps c.args.rule.now) c.args.source c.args.destination
-    c.if-source-destination.false c.in-Arrives.ensures c.if-is-laned.ensures
+    c.if-source-destination.false c.in-Arrives.ensures c.if-is_laned.ensures
 
-pub returns-else-is-laned : goal.returns-else-is-laned
-returns-else-is-laned g c =
+pub returns-else-is_laned : goal.returns-else-is_laned
+returns-else-is_laned g c =
     pair_laneless (net c.args.fabric.now) c.args.lanes (g.R.RouteRule.maps c.args.rule.now) c.args.source
-    c.args.destination c.if-source-destination.false c.in-Arrives.ensures c.if-is-laned.ensures
+    c.args.destination c.if-source-destination.false c.in-Arrives.ensures c.if-is_laned.ensures

@@ -20,7 +20,7 @@ pub loop-source-preserved : goal.loop-source-preserved
 loop-source-preserved g c =
     let N = net c.args.fabric.now in
     faultless_more N c.args.lanes (g.R.RouteRule.maps c.args.rule.now) (λ s. pairs_to s (below N.switches)) N.switches
-    c.loop-source.source (omega arith) c.loop-source.invariant c.in-default.ensures
+    c.loop-source.source (omega arith) c.loop-source.invariant c.in_default.ensures
 
 pub returns : goal.returns
 returns g c =

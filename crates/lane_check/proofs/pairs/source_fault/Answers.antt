@@ -21,7 +21,7 @@ pub loop-destination-preserved : goal.loop-destination-preserved
 loop-destination-preserved g c =
     let N = net c.args.fabric.now in
     faultless_more N c.args.lanes (g.R.RouteRule.maps c.args.rule.now) (λ d. pairs_to c.args.source (d ∷ [])) N.switches
-    c.loop-destination.destination (omega arith) c.loop-destination.invariant c.in-default.ensures
+    c.loop-destination.destination (omega arith) c.loop-destination.invariant c.in_default.ensures
 
 pub returns : goal.returns
 returns g c =

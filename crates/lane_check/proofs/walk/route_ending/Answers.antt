@@ -8,13 +8,13 @@ pub returns-then-at-destination : goal.returns-then-at-destination
 returns-then-at-destination g c =
     let N = net c.args.fabric.now in
     let M = g.R.RouteRule.maps c.args.rule.now in
-    sym (ends_here N M (N.switches - 1 - c.loop-k.-k) c.loop-k.at c.args.destination c.if-at-destination.true) ∙ c.loop-k.invariant
+    sym (ends_here N M (N.switches - 1 - c.loop-k._k) c.loop-k.at c.args.destination c.if-at-destination.true) ∙ c.loop-k.invariant
 
 pub returns-else-at-destination : goal.returns-else-at-destination
 returns-else-at-destination g c =
     let N = net c.args.fabric.now in
     let M = g.R.RouteRule.maps c.args.rule.now in
-    sym (ends_stopped N M (N.switches - 1 - c.loop-k.-k) c.loop-k.at c.args.destination (omega arith) c.in-default.ensures c.if-at-destination.false)
+    sym (ends_stopped N M (N.switches - 1 - c.loop-k._k) c.loop-k.at c.args.destination (omega arith) c.in_default.ensures c.if-at-destination.false)
     ∙ c.loop-k.invariant
 
 pub loop-k-preserved : goal.loop-k-preserved
@@ -23,18 +23,18 @@ loop-k-preserved g c =
     let M = g.R.RouteRule.maps c.args.rule.now in
     let d : ℕ = c.args.destination in
     let s = c.in-Some.ensures in
-    ap (λ (u : ℕ). ending N M (N.switches - 1 - (c.loop-k.-k + 1)) u d) s.2
-    ∙ sym (ends_on N M (N.switches - 1 - c.loop-k.-k) (N.switches - 1 - (c.loop-k.-k + 1)) c.loop-k.at d c.in-Some.taken.channel (omega arith) s.0)
+    ap (λ (u : ℕ). ending N M (N.switches - 1 - (c.loop-k._k + 1)) u d) s.2
+    ∙ sym (ends_on N M (N.switches - 1 - c.loop-k._k) (N.switches - 1 - (c.loop-k._k + 1)) c.loop-k.at d c.in-Some.taken.channel (omega arith) s.0)
     ∙ c.loop-k.invariant
 
 pub returns-then-at-destination-2 : goal.returns-then-at-destination-2
 returns-then-at-destination-2 g c =
     let N = net c.args.fabric.now in
     let M = g.R.RouteRule.maps c.args.rule.now in
-    sym (ends_here N M (N.switches - 1 - c.loop-k.-k) c.loop-k.at c.args.destination c.if-at-destination-2.true) ∙ c.loop-k.invariant
+    sym (ends_here N M (N.switches - 1 - c.loop-k._k) c.loop-k.at c.args.destination c.if-at-destination-2.true) ∙ c.loop-k.invariant
 
 pub returns-else-at-destination-2 : goal.returns-else-at-destination-2
 returns-else-at-destination-2 g c =
     let N = net c.args.fabric.now in
     let M = g.R.RouteRule.maps c.args.rule.now in
-    sym (ends_tired N M (N.switches - 1 - c.loop-k.-k) c.loop-k.at c.args.destination (omega arith) c.if-at-destination-2.false) ∙ c.loop-k.invariant
+    sym (ends_tired N M (N.switches - 1 - c.loop-k._k) c.loop-k.at c.args.destination (omega arith) c.if-at-destination-2.false) ∙ c.loop-k.invariant

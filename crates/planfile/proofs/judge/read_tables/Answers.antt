@@ -3,25 +3,25 @@ use Rattle.planfile.specs.Refused.{hops, lane, HopsPlaced, LanePlaced, switches_
 use Rattle.planfile.proofs.Faulty.{part_same, refuted}
 use Rattle.planfile.proofs.judge.read_tables.Goals as goal
 
-pub returns-then-not-hops-placed : goal.returns-then-not-hops-placed
-returns-then-not-hops-placed c =
+pub returns-then-not-hops_placed : goal.returns-then-not-hops_placed
+returns-then-not-hops_placed c =
     let e = ap (λ (z : ℕ). z * z) c.requires.counted in
-    hops c.requires.cabled (λ p. refuted _ _ c.hops-placed.ensures c.if-not-hops-placed.true (omega arith, omega arith))
+    hops c.requires.cabled (λ p. refuted _ _ c.hops_placed.ensures c.if-not-hops_placed.true (omega arith, omega arith))
 
-pub returns-then-not-lane-placed : goal.returns-then-not-lane-placed
-returns-then-not-lane-placed c =
+pub returns-then-not-lane_placed : goal.returns-then-not-lane_placed
+returns-then-not-lane_placed c =
     let bs : List ℕ = c.args.bytes.now in
     let e = ap (λ (z : ℕ). z * z) c.requires.counted in
-    let a = c.hops-placed.ensures.0 c.if-not-hops-placed.false in
+    let a = c.hops_placed.ensures.0 c.if-not-hops_placed.false in
     let h : HopsPlaced bs = record { from = omega (arith, a.0); size = omega (arith, a.1) } in
-    lane c.requires.cabled h (λ p. refuted _ _ c.lane-placed.ensures c.if-not-lane-placed.true (omega arith, omega arith))
+    lane c.requires.cabled h (λ p. refuted _ _ c.lane_placed.ensures c.if-not-lane_placed.true (omega arith, omega arith))
 
 pub returns : goal.returns
 returns c =
     let bs : List ℕ = c.args.bytes.now in
     let e = ap (λ (z : ℕ). z * z) c.requires.counted in
-    let a = c.hops-placed.ensures.0 c.if-not-hops-placed.false in
-    let b = c.lane-placed.ensures.0 c.if-not-lane-placed.false in
+    let a = c.hops_placed.ensures.0 c.if-not-hops_placed.false in
+    let b = c.lane_placed.ensures.0 c.if-not-lane_placed.false in
     let a0 = a.0 in
     let a1 = a.1 in
     let b0 = b.0 in

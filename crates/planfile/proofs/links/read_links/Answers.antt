@@ -15,10 +15,10 @@ returns-then-link-ne25 c =
       | then-link-ne25-via-else-link-ne25+else-link-lt3+else-link-gt129+then-link-ne1 w ↦ omega arith
     ])
 
-pub returns-in-err-judge : goal.returns-in-err-judge
-returns-in-err-judge c =
+pub returns-in_err-judge : goal.returns-in_err-judge
+returns-in_err-judge c =
     let bs : List ℕ = c.args.bytes.now in
-    let p = err_from_is_err_and c.from-residual.result c.from-residual.ensures.1 in
+    let p = err_from_is_err_and c.from_residual.result c.from_residual.ensures.1 in
     let q : 25 + c.args.link.length - 26 ≡ length_at bs 0 - 1 = omega arith in
     let l : LinkPlaced bs = record { from = omega arith; least = omega arith; most = omega arith; odd = omega arith } in
-    rw (p.1, p.2) (cabling_fault bs _ c.in-err-judge.field-0.0 (part_same bs 26 26 _ _ refl q) c.requires.opened l c.in-err-judge.ensures)
+    rw (p.1, p.2) (cabling_fault bs _ c.in_err-judge.field-0.0 (part_same bs 26 26 _ _ refl q) c.requires.opened l c.in_err-judge.ensures)

@@ -13,7 +13,7 @@ returns c =
     record {
       entry = (refl, refl, omega arith);
       body =
-          filled c.args.body.now c.write-ends.new.out c.switch-count.result c.channel-count-ends.result (omega arith)
-          ∙ ap (λ (z : ℕ). z ∷ c.write-ends.new.out) c.switch-count.ensures.is
-          ∙ ap (λ (z : List ℕ). c.args.fabric.now.switches ∷ z) c.write-ends.ensures;
+          filled c.args.body.now c.write_ends.new.out c.switch_count.result c.channel_count-ends.result (omega arith)
+          ∙ ap (λ (z : ℕ). z ∷ c.write_ends.new.out) c.switch_count.ensures.is
+          ∙ ap (λ (z : List ℕ). c.args.fabric.now.switches ∷ z) c.write_ends.ensures;
     }

@@ -12,8 +12,8 @@ by_pairs P n all u d hu hd ne =
     let b = mod-mul-add u n d hd in
     subst (λ (z : ℕ). P u z) b (subst (λ (z : ℕ). P z ((u * n + d) % n)) a (all (u * n + d) (mul-add-lt u n d n hu hd) (λ e. ne (sym a ∙ e ∙ b))))
 
-pub overflow-cast-k : goal.overflow-cast-k
-overflow-cast-k g c = omega (arith, div_below c.loop-k.k c.args.switches c.args.switches (omega arith) (omega arith))
+pub overflow_cast-k : goal.overflow_cast-k
+overflow_cast-k g c = omega (arith, div_below c.loop-k.k c.args.switches c.args.switches (omega arith) (omega arith))
 
 pub returns : goal.returns
 returns g c =

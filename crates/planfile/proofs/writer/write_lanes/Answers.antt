@@ -4,8 +4,8 @@ use Rattle.std.proofs.lemmas.List.FromFn.{fill_by_all}
 use Rattle.planfile.specs.File.{cell}
 use Rattle.planfile.proofs.writer.write_lanes.Goals as goal
 
-pub overflow-cast-k : goal.overflow-cast-k
-overflow-cast-k g c = omega (arith, div_below c.loop-k.k c.args.switches c.args.switches (omega arith) (omega arith))
+pub overflow_cast-k : goal.overflow_cast-k
+overflow_cast-k g c = omega (arith, div_below c.loop-k.k c.args.switches c.args.switches (omega arith) (omega arith))
 
 pub returns : goal.returns
 returns g c =

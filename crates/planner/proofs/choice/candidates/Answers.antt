@@ -2,7 +2,7 @@ use Rattle.std.proofs.Common.{◌∙◌, arith, length-set}
 use Rattle.fabric.specs.Of.{net}
 use Rattle.planner.proofs.Choosing.{gathered_none, gathered_yes, gathered_no, gathered_all}
 use Rattle.planner.proofs.choice.candidates.Goals as goal
-use Rattle.planner.proofs.choice.candidates.Goals.{then-is-nearer, else-is-nearer}
+use Rattle.planner.proofs.choice.candidates.Goals.{then-is_nearer, else-is_nearer}
 
 pub loop-channel-init : goal.loop-channel-init
 loop-channel-init c =
@@ -12,18 +12,18 @@ pub loop-channel-preserved : goal.loop-channel-preserved
 loop-channel-preserved c =
     let N = net c.args.fabric.now in
     let i = c.loop-channel.invariant in
-    elim c.if-is-nearer.branch [
-      | then-is-nearer w ↦
+    elim c.if-is_nearer.branch [
+      | then-is_nearer w ↦
           simp (w.list-is, w.count-is) (
             gathered_yes N c.args.switch c.args.destination c.loop-channel.count c.loop-channel.channel c.loop-channel.list (omega arith)
-                (omega arith) w.if-is-nearer.ensures i.0,
+                (omega arith) w.if-is_nearer.ensures i.0,
             omega arith,
             length-set _ _ _ ∙ i.2,
           )
-      | else-is-nearer w ↦
+      | else-is_nearer w ↦
           simp (w.list-is, w.count-is) (
             gathered_no N c.args.switch c.args.destination c.loop-channel.count c.loop-channel.channel c.loop-channel.list (omega arith)
-                w.if-is-nearer.ensures i.0,
+                w.if-is_nearer.ensures i.0,
             omega arith,
             i.2,
           )

@@ -11,27 +11,27 @@ use Rattle.planner.proofs.filing.file_pairs.Goals.{then-source-destination+in-So
 pub loop-cell-init : goal.loop-cell-init
 loop-cell-init c =
     let N = net c.args.fabric.now in
-    let s = c.switch-count-switches.ensures in
-    let x = c.empty-lane-board.ensures in (
-      filing_none N (rule_of c.args.draft.now) c.args.lanes (front N.switches c.args.draft.now.cells) c.switch-count-switches.result
-          c.empty-lane-board.result c.requires.few (few_cells _ s.range.1) x.size x.bare,
+    let s = c.switch_count-switches.ensures in
+    let x = c.empty_lane-board.ensures in (
+      filing_none N (rule_of c.args.draft.now) c.args.lanes (front N.switches c.args.draft.now.cells) c.switch_count-switches.result
+          c.empty_lane-board.result c.requires.few (few_cells _ s.range.1) x.size x.bare,
       refl,
       refl,
     )
 
-pub overflow-cast-source : goal.overflow-cast-source
-overflow-cast-source c =
-    let s = c.switch-count-switches.ensures in
-    omega (arith, div_below c.loop-cell.cell c.switch-count-switches.result c.switch-count-switches.result (omega arith) (omega arith))
+pub overflow_cast-source : goal.overflow_cast-source
+overflow_cast-source c =
+    let s = c.switch_count-switches.ensures in
+    omega (arith, div_below c.loop-cell.cell c.switch_count-switches.result c.switch_count-switches.result (omega arith) (omega arith))
 
-pub overflow-cast-destination : goal.overflow-cast-destination
-overflow-cast-destination c =
-    let s = c.switch-count-switches.ensures in
-    omega (arith, mod_below c.loop-cell.cell c.switch-count-switches.result (omega arith))
+pub overflow_cast-destination : goal.overflow_cast-destination
+overflow_cast-destination c =
+    let s = c.switch_count-switches.ensures in
+    omega (arith, mod_below c.loop-cell.cell c.switch_count-switches.result (omega arith))
 
 pub bounds-table-cell : goal.bounds-table-cell
 bounds-table-cell c =
-    let s = c.switch-count-switches.ensures in omega (arith, few_cells c.switch-count-switches.result s.range.1)
+    let s = c.switch_count-switches.ensures in omega (arith, few_cells c.switch_count-switches.result s.range.1)
 
 pub place-requires : goal.place-requires
 place-requires c = record { few = c.requires.few; held = c.loop-cell.invariant.0.kept.held }
@@ -39,8 +39,8 @@ place-requires c = record { few = c.requires.few; held = c.loop-cell.invariant.0
 pub returns-in-None : goal.returns-in-None
 returns-in-None c =
     let N = net c.args.fabric.now in
-    let s = c.switch-count-switches.ensures in
-    let r = c.switch-count-switches.result in (
+    let s = c.switch_count-switches.ensures in
+    let r = c.switch_count-switches.result in (
       _,
       draft_filed N c.args.lanes c.args.draft.now r c.requires.size s.is
           ∙ filing_refused N (rule_of c.args.draft.now) c.args.lanes (front N.switches c.args.draft.now.cells) r c.loop-cell.cell
@@ -51,8 +51,8 @@ returns-in-None c =
 pub loop-cell-preserved : goal.loop-cell-preserved
 loop-cell-preserved c =
     let N = net c.args.fabric.now in
-    let s = c.switch-count-switches.ensures in
-    let r = c.switch-count-switches.result in
+    let s = c.switch_count-switches.ensures in
+    let r = c.switch_count-switches.result in
     let i = c.loop-cell.invariant in
     elim c.if-source-destination.branch [
       | then-source-destination+in-Some w ↦
@@ -74,8 +74,8 @@ loop-cell-preserved c =
 pub returns : goal.returns
 returns c =
     let N = net c.args.fabric.now in
-    let s = c.switch-count-switches.ensures in
-    let r = c.switch-count-switches.result in
+    let s = c.switch_count-switches.ensures in
+    let r = c.switch_count-switches.result in
     let t = front N.switches c.args.draft.now.cells in
     draft_filed N c.args.lanes c.args.draft.now r c.requires.size s.is
     ∙ filing_all N (rule_of c.args.draft.now) c.args.lanes t r c.loop-cell.cell c.loop-cell.board c.loop-cell.table (omega arith)

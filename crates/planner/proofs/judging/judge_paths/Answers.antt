@@ -10,38 +10,38 @@ use Rattle.planner.proofs.judging.judge_paths.Goals as goal
 pub loop-cell-init : goal.loop-cell-init
 loop-cell-init c =
     let N = net c.args.fabric.now in
-    left_none (pathless N) (path_refusal N) (path_firsts N) c.switch-count-switches.result
+    left_none (pathless N) (path_refusal N) (path_firsts N) c.switch_count-switches.result
 
-pub judge-path-requires : goal.judge-path-requires
-judge-path-requires c =
-    let r = c.switch-count-switches.result in
-    let s = c.switch-count-switches.ensures in
+pub judge_path-requires : goal.judge_path-requires
+judge_path-requires c =
+    let r = c.switch_count-switches.result in
+    let s = c.switch_count-switches.ensures in
     record {
       from = omega (arith, div_below c.loop-cell.cell r r (omega arith) (omega arith));
       to = omega (arith, mod_below c.loop-cell.cell r (omega arith));
       measured = c.requires;
     }
 
-pub returns-in-err-judge-path : goal.returns-in-err-judge-path
-returns-in-err-judge-path c =
+pub returns-in_err-judge_path : goal.returns-in_err-judge_path
+returns-in_err-judge_path c =
     let N = net c.args.fabric.now in
-    let s = c.switch-count-switches.ensures in
-    let p = err_from_is_err_and c.from-residual.result c.from-residual.ensures.1 in
-    let j = c.in-err-judge-path.ensures in
+    let s = c.switch_count-switches.ensures in
+    let p = err_from_is_err_and c.from_residual.result c.from_residual.ensures.1 in
+    let j = c.in_err-judge_path.ensures in
     let found =
-    left_found (pathless N) (path_refusal N) (path_firsts N) c.switch-count-switches.result c.loop-cell.cell j.0 (omega arith) j.1
+    left_found (pathless N) (path_refusal N) (path_firsts N) c.switch_count-switches.result c.loop-cell.cell j.0 (omega arith) j.1
     c.loop-cell.invariant in
     rw (p.1, p.2) (j.0, subst (λ (m : ℕ). path_refusal N (pairs_of m) ≡ Some j.0) s.is found, j.2)
 
 pub loop-cell-preserved : goal.loop-cell-preserved
 loop-cell-preserved c =
     let N = net c.args.fabric.now in
-    left_more (pathless N) (path_refusal N) (path_firsts N) c.switch-count-switches.result c.loop-cell.cell (omega arith)
-    c.in-ok-judge-path.ensures c.loop-cell.invariant
+    left_more (pathless N) (path_refusal N) (path_firsts N) c.switch_count-switches.result c.loop-cell.cell (omega arith)
+    c.in_ok-judge_path.ensures c.loop-cell.invariant
 
 pub returns : goal.returns
 returns c =
     let N = net c.args.fabric.now in
-    let s = c.switch-count-switches.ensures in
+    let s = c.switch_count-switches.ensures in
     subst (λ (m : ℕ). path_refusal N (pairs_of m) ≡ None) s.is
-    (left_all (pathless N) (path_refusal N) (path_firsts N) c.switch-count-switches.result c.loop-cell.cell (omega arith) c.loop-cell.invariant)
+    (left_all (pathless N) (path_refusal N) (path_firsts N) c.switch_count-switches.result c.loop-cell.cell (omega arith) c.loop-cell.invariant)

@@ -19,17 +19,17 @@ same_routes f given x d =
     let n = (net f).switches in
     ap (λ (t : List ℕ). routes_refusal (net f) (table_rule n t []) (pairs_of n)) (sym d.1) ∙ draft_routes (net f) x (pairs_of n) d.0
 
-pub returns-in-err-judge-routes : goal.returns-in-err-judge-routes
-returns-in-err-judge-routes c =
-    let d = c.copy-given-draft.ensures in
-    let p = err_from_is_err_and c.from-residual.result c.from-residual.ensures.1 in
-    let j = c.in-err-judge-routes.ensures in
+pub returns-in_err-judge_routes : goal.returns-in_err-judge_routes
+returns-in_err-judge_routes c =
+    let d = c.copy_given-draft.ensures in
+    let p = err_from_is_err_and c.from_residual.result c.from_residual.ensures.1 in
+    let j = c.in_err-judge_routes.ensures in
     rw (p.1, p.2)
-    (j.0, same_routes c.args.fabric.now c.args.given.now c.copy-given-draft.result (d.size, d.table) ∙ j.1, j.2)
+    (j.0, same_routes c.args.fabric.now c.args.given.now c.copy_given-draft.result (d.size, d.table) ∙ j.1, j.2)
 
 pub returns : goal.returns
 returns c =
-    let d = c.copy-given-draft.ensures in (
-      same_routes c.args.fabric.now c.args.given.now c.copy-given-draft.result (d.size, d.table) ∙ c.in-ok-judge-routes.ensures,
+    let d = c.copy_given-draft.ensures in (
+      same_routes c.args.fabric.now c.args.given.now c.copy_given-draft.result (d.size, d.table) ∙ c.in_ok-judge_routes.ensures,
       (d.size, d.table),
     )

@@ -4,12 +4,12 @@ use Rattle.planner.proofs.Measuring.{upto_first, upto_more, measured}
 use Rattle.planner.proofs.rows.search_rows.Goals as goal
 
 pub loop-switch-init : goal.loop-switch-init
-loop-switch-init c = (upto_first (net c.args.fabric.now) c.distances-from-rows.result c.distances-from-rows.ensures, refl)
+loop-switch-init c = (upto_first (net c.args.fabric.now) c.distances_from-rows.result c.distances_from-rows.ensures, refl)
 
 pub loop-switch-preserved : goal.loop-switch-preserved
 loop-switch-preserved c =
     let i = c.loop-switch.invariant in (
-      upto_more (net c.args.fabric.now) c.loop-switch.switch c.loop-switch.rows _ (omega arith) c.distances-from.ensures i.0,
+      upto_more (net c.args.fabric.now) c.loop-switch.switch c.loop-switch.rows _ (omega arith) c.distances_from.ensures i.0,
       length-set _ _ _ ∙ i.1,
     )
 

@@ -6,7 +6,7 @@ use Rattle.lane_check.proofs.lane.cycle.write_cycle.Goals as goal
 
 pub loop-channel-preserved : goal.loop-channel-preserved
 loop-channel-preserved c =
-    let open-here = c.in-default.ensures in (
+    let open-here = c.in_default.ensures in (
       open-here.1 ∙ c.loop-channel.invariant.0,
       below_more (Open (edge_at c.args.lane.now.cells) c.args.lane.now.channels) _ c.loop-channel.invariant.1 open-here.0,
     )

@@ -14,7 +14,7 @@ pub loop-source-preserved : goal.loop-source-preserved
 loop-source-preserved g c =
     let N = net c.args.fabric.now in
     left_more (taken_from N (g.R.RouteRule.maps c.args.rule.now) c.args.lane) N.switches c.loop-source.source
-    (replicate 16384 false) c.loop-source.cells c.note-source.new.cells (omega arith) c.loop-source.invariant c.note-source.ensures
+    (replicate 16384 false) c.loop-source.cells c.note_source.new.cells (omega arith) c.loop-source.invariant c.note_source.ensures
 
 pub returns : goal.returns
 returns g c =

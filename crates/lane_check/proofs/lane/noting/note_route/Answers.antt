@@ -6,10 +6,10 @@ use Rattle.lane_check.proofs.Apart.{few_channels}
 use Rattle.lane_check.proofs.Adding.{noted_first, noted_more, noted_end, noted_nothing}
 use Rattle.lane_check.proofs.lane.noting.note_route.Goals as goal
 
-pub returns-in-default : goal.returns-in-default
-returns-in-default g c =
+pub returns-in_default : goal.returns-in_default
+returns-in_default g c =
     noted_nothing (net c.args.fabric.now) (g.R.RouteRule.maps c.args.rule.now) c.args.source c.args.destination
-    c.args.cells.now c.in-default.ensures
+    c.args.cells.now c.in_default.ensures
 
 pub loop-k-init : goal.loop-k-init
 loop-k-init g c =
@@ -21,20 +21,20 @@ loop-k-init g c =
       s.2,
     )
 
-pub returns-in-default-step-after : goal.returns-in-default-step-after
-returns-in-default-step-after g c =
+pub returns-in_default-step_after : goal.returns-in_default-step_after
+returns-in_default-step_after g c =
     let N = net c.args.fabric.now in
     let M = g.R.RouteRule.maps c.args.rule.now in
     let d : ℕ = c.args.destination in
     let i = c.loop-k.invariant in
-    noted_end N M c.args.source d (N.switches - 2 - c.loop-k.-k) c.loop-k.last.channel c.args.cells.now c.loop-k.cells
-    i.0 (walk_stop N M (N.switches - 2 - c.loop-k.-k) _ d (ap (λ (u : ℕ). hop N M u d) (sym i.2) ∙ c.in-default-step-after.ensures))
+    noted_end N M c.args.source d (N.switches - 2 - c.loop-k._k) c.loop-k.last.channel c.args.cells.now c.loop-k.cells
+    i.0 (walk_stop N M (N.switches - 2 - c.loop-k._k) _ d (ap (λ (u : ℕ). hop N M u d) (sym i.2) ∙ c.in_default-step_after.ensures))
 
 pub bounds-cells-last : goal.bounds-cells-last
 bounds-cells-last g c =
     let few = few_channels c.args.fabric.now in
     let i = c.loop-k.invariant in
-    let s = c.in-Some-step-after.ensures in
+    let s = c.in-Some-step_after.ensures in
     omega arith
 
 pub loop-k-preserved : goal.loop-k-preserved
@@ -43,10 +43,10 @@ loop-k-preserved g c =
     let M = g.R.RouteRule.maps c.args.rule.now in
     let d : ℕ = c.args.destination in
     let i = c.loop-k.invariant in
-    let s = c.in-Some-step-after.ensures in
+    let s = c.in-Some-step_after.ensures in
     let few = few_channels c.args.fabric.now in (
-      noted_more N M c.args.source d (N.switches - 2 - c.loop-k.-k) (N.switches - 2 - (c.loop-k.-k + 1)) c.loop-k.last.channel
-          c.in-Some-step-after.next.channel c.args.cells.now c.loop-k.cells i.0 (omega arith) (omega arith) (omega arith)
+      noted_more N M c.args.source d (N.switches - 2 - c.loop-k._k) (N.switches - 2 - (c.loop-k._k + 1)) c.loop-k.last.channel
+          c.in-Some-step_after.next.channel c.args.cells.now c.loop-k.cells i.0 (omega arith) (omega arith) (omega arith)
           (omega arith) (ap (λ (u : ℕ). hop N M u d) (sym i.2) ∙ s.0),
       s.1,
       s.2,
@@ -57,5 +57,5 @@ returns g c =
     let N = net c.args.fabric.now in
     let M = g.R.RouteRule.maps c.args.rule.now in
     let i = c.loop-k.invariant in
-    noted_end N M c.args.source c.args.destination (N.switches - 2 - c.loop-k.-k) c.loop-k.last.channel
-    c.args.cells.now c.loop-k.cells i.0 (walk_none N M (N.switches - 2 - c.loop-k.-k) _ c.args.destination (omega arith))
+    noted_end N M c.args.source c.args.destination (N.switches - 2 - c.loop-k._k) c.loop-k.last.channel
+    c.args.cells.now c.loop-k.cells i.0 (walk_none N M (N.switches - 2 - c.loop-k._k) _ c.args.destination (omega arith))

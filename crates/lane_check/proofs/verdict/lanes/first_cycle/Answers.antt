@@ -9,8 +9,8 @@ use Rattle.lane_check.proofs.verdict.lanes.first_cycle.Goals as goal
 pub loop-lane-init : goal.loop-lane-init
 loop-lane-init g c = (clear_none (net c.args.fabric.now) (g.R.RouteRule.maps c.args.rule.now) c.args.lanes, refl)
 
-pub write-cycle-requires : goal.write-cycle-requires
-write-cycle-requires g c =
+pub write_cycle-requires : goal.write_cycle-requires
+write_cycle-requires g c =
     let N = net c.args.fabric.now in
     let M = g.R.RouteRule.maps c.args.rule.now in
     let ℓ : ℕ = c.loop-lane.lane in
@@ -31,8 +31,8 @@ returns-in-None g c =
     let d = c.dependencies-found.result in
     let D = c.dependencies-found.ensures in (
       c.requires.paired ∙ clear_cyclic N M c.args.lanes ℓ d.channels (omega arith) D.size c.loop-lane.invariant.0 (c.in-None.ensures (lane_deps N M ℓ) D.each),
-      subst (λ (was : List ℕ). Looped (depends N M ℓ) c.write-cycle.result was c.write-cycle.new.cycle) c.loop-lane.invariant.1
-          (looped_same (edge_at d.cells) (depends N M ℓ) D.each c.write-cycle.result c.loop-lane.cycle c.write-cycle.new.cycle c.write-cycle.ensures),
+      subst (λ (was : List ℕ). Looped (depends N M ℓ) c.write_cycle.result was c.write_cycle.new.cycle) c.loop-lane.invariant.1
+          (looped_same (edge_at d.cells) (depends N M ℓ) D.each c.write_cycle.result c.loop-lane.cycle c.write_cycle.new.cycle c.write_cycle.ensures),
     )
 
 pub loop-lane-preserved : goal.loop-lane-preserved

@@ -6,7 +6,7 @@ use Rattle.fabric.specs.Of.{net}
 use Rattle.lane_check.specs.Checks.{setup_of}
 use Rattle.lane_check.proofs.Laning.{cells_order, wrote_none, wrote_more, never_stuck, lane_room}
 use Rattle.lane_check.proofs.verdict.lanes.write_orders.Goals as goal
-use Rattle.lane_check.proofs.verdict.lanes.write_orders.Goals.{in-Some, in-default}
+use Rattle.lane_check.proofs.verdict.lanes.write_orders.Goals.{in-Some, in_default}
 
 pub loop-lane-init : goal.loop-lane-init
 loop-lane-init g c =
@@ -14,9 +14,9 @@ loop-lane-init g c =
 
 pub put-requires : goal.put-requires
 put-requires g c =
-    let r = c.channel-count-channels.ensures in (
+    let r = c.channel_count-channels.ensures in (
       r.range.1,
-      lane_room c.loop-lane.lane c.args.lanes (count (net c.args.fabric.now)) c.channel-count-channels.result _ (omega arith)
+      lane_room c.loop-lane.lane c.args.lanes (count (net c.args.fabric.now)) c.channel_count-channels.result _ (omega arith)
           r.is (let room = c.requires.room in omega (arith, c.loop-lane.auto.order)),
     )
 
@@ -35,7 +35,7 @@ loop-lane-preserved g c =
           let at : ℕ → List ℕ = λ k. take (ℓ * k) c.loop-lane.order ++ (take k list ++ drop (ℓ * k + k) c.loop-lane.order) in
           wrote_more G ℓ c.args.order.now c.loop-lane.order c.match-sort.order (take n list) A (omega arith) c.loop-lane.invariant
           (cells_order G.net G.rule ℓ d.channels d.cells D.size D.each list (w.in-Some.ensures es D.each))
-          (w.order-is ∙ (w.put.ensures ∙ ap at c.channel-count-channels.ensures.is))
-      | in-default w ↦
-          absurd (never_stuck G A ℓ d.channels (omega arith) D.size (w.in-default.ensures es D.each))
+          (w.order-is ∙ (w.put.ensures ∙ ap at c.channel_count-channels.ensures.is))
+      | in_default w ↦
+          absurd (never_stuck G A ℓ d.channels (omega arith) D.size (w.in_default.ensures es D.each))
     ]

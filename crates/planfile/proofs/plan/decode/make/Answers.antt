@@ -8,33 +8,33 @@ use Rattle.planfile.specs.declared.fault.FileFault.TheVariants.{Fabric, Rule}
 use Rattle.planfile.proofs.Plans.{refuses, starved, cabling_passes, lists_pass, decoded}
 use Rattle.planfile.proofs.plan.decode.make.Goals as goal
 
-pub returns-in-err-bodies : goal.returns-in-err-bodies
-returns-in-err-bodies c =
-    let p = err_from_is_err_and c.from-residual.result c.from-residual.ensures.1 in
-    rw (p.1, p.2) (refuses c.args.bytes.now c.in-err-bodies.field-0.0 c.in-err-bodies.ensures)
+pub returns-in_err-bodies : goal.returns-in_err-bodies
+returns-in_err-bodies c =
+    let p = err_from_is_err_and c.from_residual.result c.from_residual.ensures.1 in
+    rw (p.1, p.2) (refuses c.args.bytes.now c.in_err-bodies.field-0.0 c.in_err-bodies.ensures)
 
-pub returns-in-err-fabric : goal.returns-in-err-fabric
-returns-in-err-fabric c =
+pub returns-in_err-fabric : goal.returns-in_err-fabric
+returns-in_err-fabric c =
     let bs : List ℕ = c.args.bytes.now in
-    let p = err_from_is_err_and c.from-residual-in-err-fabric.result c.from-residual-in-err-fabric.ensures.1 in
-    let b = c.in-ok-bodies.ensures in
-    rw (p.1, p.2) (starved bs (Fabric c.in-err-fabric.field-0.0) b.0
-    (c.in-err-fabric.ensures ∙ cabling_passes bs _ _ b.0 b.1.switches b.1.ends))
+    let p = err_from_is_err_and c.from_residual-in_err-fabric.result c.from_residual-in_err-fabric.ensures.1 in
+    let b = c.in_ok-bodies.ensures in
+    rw (p.1, p.2) (starved bs (Fabric c.in_err-fabric.field-0.0) b.0
+    (c.in_err-fabric.ensures ∙ cabling_passes bs _ _ b.0 b.1.switches b.1.ends))
 
-pub returns-in-err-table : goal.returns-in-err-table
-returns-in-err-table c =
+pub returns-in_err-table : goal.returns-in_err-table
+returns-in_err-table c =
     let bs : List ℕ = c.args.bytes.now in
-    let b = c.in-ok-bodies.ensures in
-    let f = c.in-ok-fabric.ensures in
-    let p = err_from_is_err_and c.from-residual-in-err-table.result c.from-residual-in-err-table.ensures.1 in
-    let n : (net c.in-ok-fabric.fabric).switches ≡ switches_in bs = ap (λ (z : Net). z.switches) f.1 ∙ b.1.switches in
-    rw (p.1, p.2) (starved bs (Rule c.in-err-table.field-0.0) b.0
-    (c.in-err-table.ensures ∙ lists_pass bs _ _ _ b.0 n b.1.hops b.1.lanes))
+    let b = c.in_ok-bodies.ensures in
+    let f = c.in_ok-fabric.ensures in
+    let p = err_from_is_err_and c.from_residual-in_err-table.result c.from_residual-in_err-table.ensures.1 in
+    let n : (net c.in_ok-fabric.fabric).switches ≡ switches_in bs = ap (λ (z : Net). z.switches) f.1 ∙ b.1.switches in
+    rw (p.1, p.2) (starved bs (Rule c.in_err-table.field-0.0) b.0
+    (c.in_err-table.ensures ∙ lists_pass bs _ _ _ b.0 n b.1.hops b.1.lanes))
 
 pub returns : goal.returns
 returns c =
     let bs : List ℕ = c.args.bytes.now in
-    let b = c.in-ok-bodies.ensures in
-    let f = c.in-ok-fabric.ensures in
-    let t = c.in-ok-table.ensures in
-    (b.0, decoded bs _ _ _ _ _ _ _ (λ i. omega (arith, c.type-inv.bytes i)) b.0 b.1.switches b.1.ends b.1.hops b.1.lanes b.1.count f.1 t.1)
+    let b = c.in_ok-bodies.ensures in
+    let f = c.in_ok-fabric.ensures in
+    let t = c.in_ok-table.ensures in
+    (b.0, decoded bs _ _ _ _ _ _ _ (λ i. omega (arith, c.type_inv.bytes i)) b.0 b.1.switches b.1.ends b.1.hops b.1.lanes b.1.count f.1 t.1)

@@ -8,4 +8,4 @@ abbrev pub invariant-loop-tried : goal.invariant-loop-tried
 invariant-loop-tried g l =
     first_from (contending g.R.RouteRule.maps l.self l.site) (positions_of g.R.RouteRule.maps l.self l.site) l.from
     (positions_of g.R.RouteRule.maps l.self l.site)
-    ≡ first_from (contending g.R.RouteRule.maps l.self l.site) l.k l.p (l.k - l.-tried)
+    ≡ first_from (contending g.R.RouteRule.maps l.self l.site) l.k l.p (l.k - l._tried)
