@@ -1,7 +1,7 @@
 -- What a stage of the tests finds.
 use Rattle.std.proofs.Common.{◌≡◌, ℕ, ◌+◌, ◌-◌, ◌*◌, ◌<◌, ◌≤◌, Bool, true, false, not, List, length, take, drop, Some, None, Decides, Option, sym, refl, ap, ◌∙◌, subst, arith, MatchOption}
-use Rattle.std.specs.Cmp.Lexicographic.{Matches}
-use Rattle.std.proofs.lemmas.Slice.Eq.{slice_eq-Decides}
+use Rattle.std.specs.Str.{bytes_eq}
+use Rattle.std.proofs.lemmas.Slice.Eq.{bytes_eq-Decides}
 use Rattle.std.proofs.lemmas.List.{length-take-le, length-drop}
 use Rattle.fabric.specs.Faults.{fabric_refusal}
 use Rattle.fabric.specs.declared.fault.FabricFault.{FabricFault}
@@ -12,7 +12,6 @@ use Rattle.planfile.specs.Judges.{Faulty}
 use Rattle.planfile.specs.Refused.{Opened, LinkPlaced, Placed, Refused, Plain, Marred, marred, cabling, hops_diagonal, lane_diagonal, switches_in, ends_in, hops_in, lanes_in, hops_from, lane_from, length_at}
 use Rattle.planfile.specs.declared.fault.FileFault.{FileFault}
 use Rattle.planfile.specs.declared.fault.FileFault.TheVariants.{Fabric}
-use Rattle.std.proofs.lemmas.Bool.Decides.{Decides-eqb}
 
 -- the fault of a refusal
 pub faulty : (bs : List ℕ) (f : FileFault) (r : Refusal) → file_refusal f ≡ Some r → Refused bs r → Faulty bs f
@@ -29,17 +28,17 @@ cabling_fault bs ends f e o p h = by (fabric_refusal f) h
 
 -- two tags, compared
 abbrev pub Compared : List ℕ → List ℕ → Bool → Type 0
-Compared xs ys r = (x : Bool) × Matches (λ (a b : ℕ) (t : Bool). Decides t (a ≡ b)) xs ys x × (r ≡ not x)
+Compared xs ys r = r ≡ not (bytes_eq xs ys)
 
 pub tag_right : (xs ys : List ℕ) (r : Bool) → Compared xs ys r → r ≡ false → xs ≡ ys
-tag_right xs ys r h e = by h.0 (slice_eq-Decides Decides-eqb xs ys h.0 h.1) h.2
+tag_right xs ys r h e = by (bytes_eq xs ys) (bytes_eq-Decides xs ys) h
   where
     by : (x : Bool) → Decides x (xs ≡ ys) → r ≡ not x → xs ≡ ys
     by true d q = d.0 refl
     by false d q = let z : true ≡ false = sym q ∙ e in let y : ◌≡◌ {A = ℕ} 0 1 = cc in absurd (omega arith)
 
 pub tag_wrong : (xs ys : List ℕ) (r : Bool) → Compared xs ys r → r ≡ true → xs ≡ ys → ⊥
-tag_wrong xs ys r h e s = by h.0 (slice_eq-Decides Decides-eqb xs ys h.0 h.1) h.2
+tag_wrong xs ys r h e s = by (bytes_eq xs ys) (bytes_eq-Decides xs ys) h
   where
     by : (x : Bool) → Decides x (xs ≡ ys) → r ≡ not x → ⊥
     by true d q = let z : true ≡ false = sym e ∙ q in let y : ◌≡◌ {A = ℕ} 0 1 = cc in omega arith

@@ -1,7 +1,7 @@
 -- Tables by row.
 use Rattle.std.proofs.Common.{◌≡◌, ℕ, ◌+◌, ◌*◌, ◌/◌, ◌%◌, ◌<◌, Bool, true, cond, ltb, List, length, get_or, Some, None, Option, sym, ap, ◌∙◌, inl, inr, arith}
 use Rattle.std.proofs.lemmas.Nat.{div-add-mod', div_below, mod_below, mul-add-lt, div-mul-add, mod-mul-add}
-use Rattle.std.proofs.lemmas.List.FromFn.{fill_by_all, get_or-map_range_with_len, length-map-range_with_len}
+use Rattle.std.proofs.lemmas.List.FromFn.{fill_by_all, get_or-map-range_with_len, length-map-range_with_len}
 use Rattle.std.proofs.lemmas.List.{get_or_default}
 use Rattle.std.proofs.lemmas.Bool.{cases_eq, cases_lt, lt-ltb, le-ltb, eq-eqb, ne_eqb, cond-true, cond-false}
 use Rattle.std.proofs.lemmas.Bool.Decides.{nat_tests}
@@ -15,7 +15,7 @@ length_rows n f = length-map-range_with_len (λ (k : ℕ). cell f (k / n) (k % n
 -- what stands at u and d
 pub rows_at : (n : ℕ) (f : ℕ → ℕ → ℕ) (u d : ℕ) → u < n → d < n → get_or (rows n f) (u * n + d) 0 ≡ cell f u d
 rows_at n f u d hu hd =
-    get_or-map_range_with_len (λ (k : ℕ). cell f (k / n) (k % n)) 0 (n * n) (u * n + d) (u * n + d) 0 (mul-add-lt u n d n hu hd) (omega arith)
+    get_or-map-range_with_len (λ (k : ℕ). cell f (k / n) (k % n)) 0 (n * n) (u * n + d) (u * n + d) 0 (mul-add-lt u n d n hu hd) (omega arith)
     ∙ ap (λ (z : ℕ). cell f z ((u * n + d) % n)) (div-mul-add u n d hd) ∙ ap (λ (z : ℕ). cell f u z) (mod-mul-add u n d hd)
 
 -- a table whose diagonal is 255 is the rows of what it answers
