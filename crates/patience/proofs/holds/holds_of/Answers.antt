@@ -9,11 +9,11 @@ loop-more-init g c =
 
 pub loop-more-preserved : goal.loop-more-preserved
 loop-more-preserved g c =
-    holds_more c.args.counts.now c.loop-more.holds c.next-holds-holds.result (g.G.Graph.edge c.args.lane.now)
-    (g.G.Graph.nodes c.args.lane.now) c.loop-more.-more c.loop-more.invariant c.next-holds-holds.ensures
+    holds_more c.args.counts.now c.loop-more.holds c.next_holds-holds.result (g.G.Graph.edge c.args.lane.now)
+    (g.G.Graph.nodes c.args.lane.now) c.loop-more._more c.loop-more.invariant c.next_holds-holds.ensures
 
 pub returns : goal.returns
 returns g c = λ x l.
-    let e : c.loop-more.-more ≡ g.G.Graph.nodes c.args.lane.now = omega arith in
+    let e : c.loop-more._more ≡ g.G.Graph.nodes c.args.lane.now = omega arith in
     c.loop-more.invariant x l
     ∙ ap (λ (m : ℕ). capped (hold_on c.args.counts.now (g.G.Graph.edge c.args.lane.now) (g.G.Graph.nodes c.args.lane.now) m x)) e

@@ -11,6 +11,6 @@ loop-to-preserved g c =
     let m : ℕ = c.loop-to.to in
     elim c.if-leads.branch [
       | then-leads w ↦ heaviest_hit f e m c.if-leads.most (sym c.leads.ensures ∙ w.if-leads.true)
-          (w.most-is ∙ w.max-most.ensures ∙ ap (λ (x : ℕ). max x w.turn-cost.result) c.loop-to.invariant ∙ ap (max (heaviest f e m)) w.turn-cost.ensures)
+          (w.most-is ∙ w.max-most.ensures ∙ ap (λ (x : ℕ). max x w.turn_cost.result) c.loop-to.invariant ∙ ap (max (heaviest f e m)) w.turn_cost.ensures)
       | else-leads w ↦ heaviest_miss f e m c.if-leads.most (sym c.leads.ensures ∙ w.if-leads.false) (w.most-is ∙ c.loop-to.invariant)
     ]

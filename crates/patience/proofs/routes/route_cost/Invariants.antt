@@ -9,4 +9,4 @@ abbrev pub invariant-loop-taken : goal.invariant-loop-taken
 invariant-loop-taken g l =
     (l.cost ≤ 4294967295)
     × (capped (1 + total (costs l.counts l.holds) (route (net l.fabric) (g.R.RouteRule.maps l.rule) l.source l.destination))
-    ≡ capped (l.cost + total (costs l.counts l.holds) (walk (net l.fabric) (g.R.RouteRule.maps l.rule) ((net l.fabric).switches - 1 - l.-taken) l.switch l.destination)))
+    ≡ capped (l.cost + total (costs l.counts l.holds) (walk (net l.fabric) (g.R.RouteRule.maps l.rule) ((net l.fabric).switches - 1 - l._taken) l.switch l.destination)))
