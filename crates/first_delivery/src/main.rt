@@ -4,8 +4,8 @@ ghost use Rattle.std.specs.Prelude.{◌+◌, ◌*◌, length, if◌then◌else�
 ghost use Rattle.model.specs.Rules.{channel_byte};
 
 use anyhow::anyhow;
-use lane_check::check;
 use fabric::Fabric;
+use lane_check::check;
 use routing::table::Table;
 use routing::{RouteRule, RuleFault};
 use run::{Answer, Call, Outcome, Request, Run};

@@ -6,9 +6,9 @@ ghost use Rattle.patience.specs.Patient.{Patient};
 
 use crate::holds::{counts_of, holds_of};
 use crate::routes::route_cost;
+use fabric::{CallFault, Fabric};
 use lane_check::lane::noting::dependencies;
 use lane_check::verdict::check;
-use fabric::{CallFault, Fabric};
 use routing::{RouteRule, RuleFault};
 
 // The patience of a pair, or 4,294,967,295 where it is more.
