@@ -1,5 +1,5 @@
 -- Link ends, one link after the other: their refusals, their channels, and where those lie.
-use Rattle.std.proofs.Common.{◌≡◌, ℕ, zero, suc, ◌+◌, ◌-◌, ◌*◌, ◌/◌, ◌%◌, ◌<◌, ◌≤◌, Bool, true, false, cond, ◌||◌, eqb, ltb, leb, ◌⊎◌, List, [], ◌∷◌, ◌++◌, map, length, get_or, drop, Some, None, Option, sym, refl, ap, ◌∙◌, inl, inr, arith, length-drop, MatchOption}
+use Rattle.std.proofs.Common.{◌≡◌, ℕ, zero, suc, ◌+◌, ◌*◌, ◌/◌, ◌%◌, ◌<◌, ◌≤◌, Bool, true, false, cond, ◌||◌, eqb, ltb, leb, ◌⊎◌, List, [], ◌∷◌, ◌++◌, map, length, get_or, drop, Some, None, Option, sym, refl, ap, ◌∙◌, inl, inr, arith, length-drop, MatchOption}
 use Rattle.std.proofs.lemmas.List.{drop_more, append_assoc, append-nil, map-append}
 use Rattle.std.proofs.lemmas.Bool.{or_parts, or_right, leb-false, le-leb, lt-leb, eqb-false, eq-eqb, ne_eqb, cond-true}
 use Rattle.model.specs.Net.{Channel, channels_of}

@@ -9,7 +9,7 @@ use Rattle.model.specs.Routes.{Way, home, onto, depends}
 use Rattle.model.specs.Verdicts.{Accepts}
 use Rattle.model.specs.Packets.{Packet, Parcel, placed, Call, Event}
 use Rattle.model.specs.State.{State, empty, listed}
-use Rattle.model.specs.Run.{lane_for, after}
+use Rattle.model.specs.Run.{lane_for}
 use Rattle.model.specs.History.{step_at, state_from, state_after}
 use Rattle.model.specs.Promise.{way_of, of_pair, InPlace}
 use Rattle.model.proofs.Members.{is_in_here, any_right}

@@ -1,5 +1,5 @@
 -- What a stage of the tests finds.
-use Rattle.std.proofs.Common.{◌≡◌, ℕ, ◌+◌, ◌-◌, ◌*◌, ◌<◌, ◌≤◌, Bool, true, false, not, List, length, take, drop, Some, None, Decides, Option, sym, refl, ap, ◌∙◌, subst, arith, MatchOption}
+use Rattle.std.proofs.Common.{◌≡◌, ℕ, ◌+◌, ◌*◌, Bool, true, false, not, List, length, take, drop, Some, None, Decides, Option, sym, refl, ap, ◌∙◌, subst, arith, MatchOption}
 use Rattle.std.specs.Str.{bytes_eq}
 use Rattle.std.proofs.lemmas.Slice.Eq.{bytes_eq-Decides}
 use Rattle.std.proofs.lemmas.List.{length-take-le, length-drop}
@@ -9,7 +9,7 @@ use Rattle.model.specs.Cabling.{cabling_refusal}
 use Rattle.model.specs.Refusals.{Refusal}
 use Rattle.planfile.specs.Faults.{file_refusal}
 use Rattle.planfile.specs.Judges.{Faulty}
-use Rattle.planfile.specs.Refused.{Opened, LinkPlaced, Placed, Refused, Plain, Marred, marred, cabling, hops_diagonal, lane_diagonal, switches_in, ends_in, hops_in, lanes_in, hops_from, lane_from, length_at}
+use Rattle.planfile.specs.Refused.{Opened, LinkPlaced, Placed, Refused, Plain, Marred, marred, cabling, hops_diagonal, lane_diagonal, switches_in, ends_in, hops_in, lanes_in, hops_from, lane_from}
 use Rattle.planfile.specs.declared.fault.FileFault.{FileFault}
 use Rattle.planfile.specs.declared.fault.FileFault.TheVariants.{Fabric}
 

@@ -1,6 +1,6 @@
 -- A written file, part by part.
-use Rattle.std.proofs.Common.{◌≡◌, ℕ, zero, suc, ◌+◌, ◌-◌, ◌*◌, ◌%◌, ◌<◌, ◌≤◌, Bool, cond, ltb, List, [], ◌∷◌, ◌++◌, length, get_or, take, drop, IfSome, Some, None, Ok, Err, vec_items, Option, Result, sym, refl, ap, ◌∙◌, subst, arith, MatchOption}
-use Rattle.std.proofs.lemmas.Nat.{mul-add-lt, mul-le}
+use Rattle.std.proofs.Common.{◌≡◌, ℕ, zero, suc, ◌+◌, ◌-◌, ◌*◌, ◌%◌, ◌<◌, ◌≤◌, ltb, List, [], ◌∷◌, ◌++◌, length, get_or, take, drop, IfSome, Some, None, Ok, Err, vec_items, Option, Result, sym, refl, ap, ◌∙◌, subst, arith, MatchOption}
+use Rattle.std.proofs.lemmas.Nat.{mul-le}
 use Rattle.std.proofs.lemmas.List.{take_at, take_all, drop_at, drop-drop, length-map, get_or-drop}
 use Rattle.std.proofs.lemmas.Bool.{cond_both, cond-false, cond-true, eq-eqb, le-ltb, lt-leb, ltb-true, ne_eqb}
 use Rattle.fabric.proofs.Cables.{linked_channels}
@@ -14,9 +14,9 @@ use Rattle.model.specs.Rules.{Rule, channel_byte, table_rule}
 use Rattle.routing.specs.Tables.{rule_of}
 use Rattle.planfile.specs.Decodes.{Decodes}
 use Rattle.planfile.specs.Faults.{file_refusal}
-use Rattle.planfile.specs.File.{byte_of, cell, file_bytes, hop_byte, hops_body, lane_body, link_body, rows}
+use Rattle.planfile.specs.File.{byte_of, file_bytes, hop_byte, hops_body, lane_body, link_body, rows}
 use Rattle.planfile.specs.Refused.{PlanFile, Plain, Refused, form, tag, link, cabling, hops, lane, hops_diagonal, lane_diagonal, hops_from, hops_in, ends_in, lane_count_in, lane_from, lanes_in, length_at, tag_at, tag_of}
-use Rattle.planfile.specs.Round.{Back, Returns, Same}
+use Rattle.planfile.specs.Round.{Back, Same}
 use Rattle.planfile.specs.Writes.{Named}
 use Rattle.planfile.specs.declared.fault.FileFault.{FileFault}
 use Rattle.planfile.specs.declared.plan.Plan.{Plan}

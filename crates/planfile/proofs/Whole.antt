@@ -1,5 +1,5 @@
 -- A file that passes every test is the file of what it holds.
-use Rattle.std.proofs.Common.{◌≡◌, ℕ, ◌+◌, ◌-◌, ◌*◌, ◌%◌, ◌<◌, List, ◌∷◌, ◌++◌, length, get_or, take, drop, sym, refl, ap, ◌∙◌, arith}
+use Rattle.std.proofs.Common.{◌≡◌, ℕ, ◌+◌, ◌-◌, ◌*◌, ◌<◌, List, ◌∷◌, ◌++◌, length, get_or, take, drop, sym, refl, ap, ◌∙◌, arith}
 use Rattle.std.proofs.lemmas.Nat.{mul-add-lt}
 use Rattle.std.proofs.lemmas.List.{length-drop, length-take-le, drop_more, take_all, get_or-take, get_or-drop}
 use Rattle.fabric.proofs.Cables.{cabled, starts_of}
@@ -10,7 +10,7 @@ use Rattle.planfile.specs.File.{entry_bytes, file_of, file_bytes, rows, hop_byte
 use Rattle.planfile.specs.Refused.{Placed, PlanFile, tag_of, length_at, switches_in, ends_in, hops_in, lane_count_in, lanes_in, hops_from, lane_from}
 use Rattle.planfile.proofs.Faulty.{hops_long, lanes_long}
 use Rattle.planfile.proofs.Heads.{entry_is, cut}
-use Rattle.planfile.proofs.Rows.{rows_back, hop_back, lane_back, length_rows}
+use Rattle.planfile.proofs.Rows.{rows_back, hop_back, lane_back}
 
 -- each element is a byte
 abbrev pub Bytes : List ℕ → Type 0

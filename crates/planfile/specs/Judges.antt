@@ -1,5 +1,5 @@
 -- What taking a file apart answers.
-use Rattle.std.specs.Prelude.{◌≡◌, ℕ, ◌+◌, ◌*◌, List, Some, None, Ok, Err, Option, Result, MatchOption}
+use Rattle.std.specs.Prelude.{◌≡◌, ℕ, List, Some, None, Ok, Err, Option, Result, MatchOption}
 use Rattle.planfile.specs.Contents.{Holds}
 use Rattle.planfile.specs.Faults.{file_refusal}
 use Rattle.planfile.specs.Refused.{Opened, Cabled, Placed, PlanFile, Refused, Plain, Marred, switches_in, ends_in, hops_in, lane_count_in, lanes_in}

@@ -1,5 +1,5 @@
 -- Which lists of bytes are plan files, and how the others are refused.
-use Rattle.std.specs.Prelude.{◌≡◌, ℕ, zero, suc, ◌+◌, ◌-◌, ◌*◌, ◌%◌, ◌<◌, ◌≤◌, List, [], ◌∷◌, length, take, drop, Some, None, codes, ◌≢◌, slice_index, slice_index_or}
+use Rattle.std.specs.Prelude.{◌≡◌, ℕ, zero, suc, ◌+◌, ◌-◌, ◌*◌, ◌%◌, ◌<◌, ◌≤◌, List, [], ◌∷◌, take, drop, Some, None, codes, ◌≢◌, slice_index, slice_index_or}
 use Rattle.model.specs.Cabling.{cabling_refusal}
 use Rattle.model.specs.Refusals.{Refusal, refuse, file_layer}
 use Rattle.planfile.specs.Contents.{entry_at, tag_from, offset_from, length_from, Formed}

@@ -1,6 +1,5 @@
 use Rattle.std.proofs.Common.{ℕ, ap, ◌∙◌}
 use Rattle.model.specs.Routes.{depends}
-use Rattle.fabric.specs.Of.{net}
 use Rattle.lane_check.specs.Checks.{setup_of}
 use Rattle.patience.proofs.Telling.{tells}
 use Rattle.patience.proofs.patience.told.Goals as goal

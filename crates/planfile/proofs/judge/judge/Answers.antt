@@ -1,4 +1,4 @@
-use Rattle.std.proofs.Common.{◌≡◌, ℕ, ◌*◌, List, length, ap, arith}
+use Rattle.std.proofs.Common.{ℕ, ◌*◌, List, length, ap, arith}
 use Rattle.planfile.proofs.Faulty.{hops_long, lanes_long, hops_marred, lanes_marred, plain_whole}
 use Rattle.planfile.proofs.judge.judge.Goals as goal
 

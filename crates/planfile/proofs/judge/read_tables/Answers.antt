@@ -1,4 +1,4 @@
-use Rattle.std.proofs.Common.{◌≡◌, ℕ, ◌+◌, ◌-◌, ◌*◌, Bool, true, false, List, get_or, Decides, sym, refl, ap, ◌∙◌, arith, rules}
+use Rattle.std.proofs.Common.{◌≡◌, ℕ, ◌+◌, ◌-◌, ◌*◌, List, get_or, ap, arith}
 use Rattle.planfile.specs.Refused.{hops, lane, HopsPlaced, LanePlaced, switches_in, hops_from, lane_from}
 use Rattle.planfile.proofs.Faulty.{part_same, refuted}
 use Rattle.planfile.proofs.judge.read_tables.Goals as goal

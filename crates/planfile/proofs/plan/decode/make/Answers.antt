@@ -1,8 +1,7 @@
-use Rattle.std.proofs.Common.{◌≡◌, ℕ, List, refl, ap, ◌∙◌, arith}
+use Rattle.std.proofs.Common.{◌≡◌, ℕ, List, ap, ◌∙◌, arith}
 use Rattle.std.proofs.lemmas.Result.{err_from_is_err_and}
 use Rattle.fabric.specs.Of.{net}
 use Rattle.model.specs.Net.{Net}
-use Rattle.routing.specs.Tables.{rule_of}
 use Rattle.planfile.specs.Refused.{switches_in}
 use Rattle.planfile.specs.declared.fault.FileFault.TheVariants.{Fabric, Rule}
 use Rattle.planfile.proofs.Plans.{refuses, starved, cabling_passes, lists_pass, decoded}

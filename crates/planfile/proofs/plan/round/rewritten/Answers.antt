@@ -1,4 +1,4 @@
-use Rattle.std.proofs.Common.{ℕ, List, refl}
+use Rattle.std.proofs.Common.{refl}
 use Rattle.std.proofs.lemmas.Result.{err_from_is_err_and}
 use Rattle.planfile.proofs.Recoding.{not_decoded, not_written, written_again_lem}
 use Rattle.planfile.proofs.plan.round.rewritten.Goals as goal
