@@ -41,3 +41,7 @@ joins_later u v i xs h ne = rest_of u v i xs h ∙ simp (not_both (get_or xs i b
 
 pub joins_end : (u v i : ℕ) (xs : List CodeChannel) → length xs ≤ i → any_of (goes u v) (map plain (drop i xs)) ≡ false
 joins_end u v i xs h = ap (λ (z : List CodeChannel). any_of (goes u v) (map plain z)) (drop_all i xs h)
+
+-- a fabric has as few switches as a graph may have nodes
+pub few_switches : (n : ℕ) → 2 ≤ n → n ≤ 32 → (1 ≤ n) × (n ≤ 128)
+few_switches n enough few = (omega arith, omega arith)

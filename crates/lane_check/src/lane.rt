@@ -1,6 +1,5 @@
 ghost use Rattle.std.specs.Prelude.{◌≡◌, ℕ, ◌≤◌, false};
 ghost use Rattle.lane_check.specs.Cells.{edge_at};
-ghost use Rattle.std.proofs.Common.{rules, arith};
 
 use graph::Graph;
 
@@ -23,9 +22,9 @@ impl Graph for Dependencies {
 
     ghost edge = { λ d b c. edge_at d.cells b c };
 
-    ghost few = { first_of (Prim.search rules, Prim.grind (arith, Self.row.coded.inj)) };
+    ghost few = { λ d. d.few };
 
-    ghost loopless = { first_of (Prim.search rules, Prim.grind (arith, Self.row.coded.inj)) };
+    ghost loopless = { λ d. d.loopless };
 
     fn node_count(&self) -> u32 {
         self.channels as u32

@@ -1,5 +1,6 @@
 -- The dependencies of a lane as 128 rows of 128 cells, and what adding to them leaves.
-use Rattle.std.specs.Prelude.{◌≡◌, ℕ, suc, ◌+◌, ◌*◌, ◌<◌, Bool, true, false, not, ◌&&◌, ◌||◌, List, ◌==◌, nat_lt, slice_index_or}
+use Rattle.std.specs.Prelude.{◌≡◌, ℕ, suc, ◌+◌, ◌*◌, ◌<◌, Bool, true, false, not, ◌&&◌, ◌||◌, List, ◌==◌, nat_lt, slice_index_or, refl}
+use Rattle.std.proofs.lemmas.Bool.{eq-eqb}
 use Rattle.model.specs.Walks.{Walk}
 
 -- Channel b leads to channel c.
@@ -9,6 +10,10 @@ edge_at cells b c = nat_lt b 128 && nat_lt c 128 && slice_index_or cells (b * 12
 -- Channel b leads to another channel c.
 abbrev pub leads_to : List Bool → ℕ → ℕ → Bool
 leads_to cells b c = not (b == c) && edge_at cells b c
+
+-- no node leads to itself
+pub loopless : (cells : List Bool) (c : ℕ) → leads_to cells c c ≡ false
+loopless cells c = simp (eq-eqb c c refl)
 
 -- The dependencies e, and those of the cells.
 abbrev pub with : List Bool → (ℕ → ℕ → Bool) → ℕ → ℕ → Bool

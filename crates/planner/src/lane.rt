@@ -2,9 +2,8 @@ ghost use Rattle.std.specs.Prelude.{◌≡◌, ◌<◌, ◌≤◌, false, replic
 ghost use Rattle.model.specs.Net.{count};
 ghost use Rattle.model.specs.Routes.{route, steps, has};
 ghost use Rattle.fabric.specs.Of.{net};
-ghost use Rattle.planner.specs.Cells.{edge_at, leads_to, Acyclic, Admits, Tried, Filed};
+ghost use Rattle.planner.specs.Cells.{edge_at, leads_to, loopless, Acyclic, Admits, Tried, Filed};
 ghost use Rattle.planner.specs.Drafts.{rule_of};
-ghost use Rattle.std.proofs.Common.{rules, arith};
 
 use crate::draft::Draft;
 use fabric::Fabric;
@@ -26,9 +25,9 @@ impl Graph for LaneDraft {
 
     ghost edge = { λ x b c. leads_to x.cells b c };
 
-    ghost few = { first_of (Prim.search rules, Prim.grind (arith, Self.row.coded.inj)) };
+    ghost few = { λ x. x.few };
 
-    ghost loopless = { first_of (Prim.search rules, Prim.grind (arith, Self.row.coded.inj)) };
+    ghost loopless = { λ x. loopless x.cells };
 
     fn node_count(&self) -> u32 {
         self.channels as u32

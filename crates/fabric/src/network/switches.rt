@@ -1,7 +1,6 @@
 ghost use Rattle.model.specs.Net.{joins};
 ghost use Rattle.fabric.specs.Of.{net};
 ghost use Rattle.fabric.specs.Joining;
-ghost use Rattle.std.proofs.Common.{rules, arith};
 
 use crate::network::Fabric;
 use graph::Graph;
@@ -12,7 +11,7 @@ impl Graph for Fabric {
 
     ghost edge = { λ f u v. joins (net f) u v };
 
-    ghost few = { first_of (Prim.search rules, Prim.grind (arith, Self.row.coded.inj)) };
+    ghost few = { λ f. Joining.few_switches f.switches f.sizes.0 f.sizes.1 };
 
     ghost loopless = { λ f u. Joining.loopless f.switches (net f).channels u f.inside };
 
