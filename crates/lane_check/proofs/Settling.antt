@@ -32,17 +32,17 @@ module _ (g : Setup) where
   paired t = sym all_pairs ∙ t []
 
   -- A lane count or a list that is refused.
-  module _ (o c : List ℕ) {X : Type 0} (onYes : X) (onNo : RuleFault → X) (f : RuleFault) where
-    pub says_count : false ≡ few_lanes g.lanes → rule_refusal f ≡ Some bad_lane_count → Checked onYes onNo g o o c c (onNo f)
+  module _ (o c : List ℕ) {X : Type 0} (on_yes : X) (on_no : RuleFault → X) (f : RuleFault) where
+    pub says_count : false ≡ few_lanes g.lanes → rule_refusal f ≡ Some bad_lane_count → Checked on_yes on_no g o o c c (on_no f)
     says_count few e =
-        subst (λ (t : Bool). Settles onYes onNo g (cond t (cond (long_enough g.lanes (count g.net) (length o) (length c)) (finding (verdict g)) (refused short_list)) (refused bad_lane_count)) o o c c (onNo f))
+        subst (λ (t : Bool). Settles on_yes on_no g (cond t (cond (long_enough g.lanes (count g.net) (length o) (length c)) (finding (verdict g)) (refused short_list)) (refused bad_lane_count)) o o c c (on_no f))
         few ((f, e, refl), refl, refl)
 
     pub says_short : true ≡ few_lanes g.lanes → false ≡ long_enough g.lanes (count g.net) (length o) (length c) → rule_refusal f ≡ Some short_list
-        → Checked onYes onNo g o o c c (onNo f)
+        → Checked on_yes on_no g o o c c (on_no f)
     says_short few long e =
-        subst (λ (t : Bool). Settles onYes onNo g (cond t (cond (long_enough g.lanes (count g.net) (length o) (length c)) (finding (verdict g)) (refused short_list)) (refused bad_lane_count)) o o c c (onNo f))
-        few (subst (λ (t : Bool). Settles onYes onNo g (cond t (finding (verdict g)) (refused short_list)) o o c c (onNo f)) long ((f, e, refl), refl, refl))
+        subst (λ (t : Bool). Settles on_yes on_no g (cond t (cond (long_enough g.lanes (count g.net) (length o) (length c)) (finding (verdict g)) (refused short_list)) (refused bad_lane_count)) o o c c (on_no f))
+        few (subst (λ (t : Bool). Settles on_yes on_no g (cond t (finding (verdict g)) (refused short_list)) o o c c (on_no f)) long ((f, e, refl), refl, refl))
 
   module _ (o c : List ℕ) (few : true ≡ few_lanes g.lanes) (long : true ≡ long_enough g.lanes (count g.net) (length o) (length c)) where
     found_verdict : found g (length o) (length c) ≡ finding (verdict g)
@@ -50,21 +50,21 @@ module _ (g : Setup) where
         ap (λ (t : Bool). cond t (cond (long_enough g.lanes (count g.net) (length o) (length c)) (finding (verdict g)) (refused short_list)) (refused bad_lane_count)) (sym few)
         ∙ ap (λ (t : Bool). cond t (finding (verdict g)) (refused short_list)) (sym long)
 
-    module _ {X : Type 0} (onYes : X) (onNo : RuleFault → X) where
-      at : (v : Verdict) → verdict g ≡ v → (o' c' : List ℕ) (r : X) → Settles onYes onNo g (finding v) o o' c c' r → Checked onYes onNo g o o' c c' r
-      at v e o' c' r s = subst (λ (z : Finding). Settles onYes onNo g z o o' c c' r) (sym (found_verdict ∙ ap finding e)) s
+    module _ {X : Type 0} (on_yes : X) (on_no : RuleFault → X) where
+      at : (v : Verdict) → verdict g ≡ v → (o' c' : List ℕ) (r : X) → Settles on_yes on_no g (finding v) o o' c c' r → Checked on_yes on_no g o o' c c' r
+      at v e o' c' r s = subst (λ (z : Finding). Settles on_yes on_no g z o o' c c' r) (sym (found_verdict ∙ ap finding e)) s
 
       pub says_fault : (f : RuleFault) → FirstFault g.net g.lanes g.rule (pairs_of g.net.switches) (Some f)
-          → Checked onYes onNo g o o c c (onNo f)
+          → Checked on_yes on_no g o o c c (on_no f)
       says_fault f t =
           let x = t [] in
-          subst (λ (z : Finding). Settles onYes onNo g z o o c c (onNo f)) (sym (found_verdict ∙ ap finding (sym all_pairs) ∙ x.1))
+          subst (λ (z : Finding). Settles on_yes on_no g z o o c c (on_no f)) (sym (found_verdict ∙ ap finding (sym all_pairs) ∙ x.1))
           ((f, x.2, refl), refl, refl)
 
       pub says_cycle : (ℓ k : ℕ) (o' c' : List ℕ) → verdict g ≡ cyclic ℓ → Looped (depends g.net g.rule ℓ) k c c' → o' ≡ o
-          → Checked onYes onNo g o o' c c' (onNo (Cyclic ℓ k))
+          → Checked on_yes on_no g o o' c c' (on_no (Cyclic ℓ k))
       says_cycle ℓ k o' c' e L q =
-          at (cyclic ℓ) e o' c' (onNo (Cyclic ℓ k)) (
+          at (cyclic ℓ) e o' c' (on_no (Cyclic ℓ k)) (
             L.cycle,
             L.round,
             (Cyclic ℓ k, ap (λ (n : ℕ). rule_refusal (Cyclic ℓ n)) (sym L.size), refl),
@@ -72,20 +72,20 @@ module _ (g : Setup) where
             L.list ∙ ap (λ (n : ℕ). L.cycle ++ drop n c) (sym L.size),
           )
 
-      pub says_yes : (o' c' : List ℕ) (r : X) → verdict g ≡ fine → r ≡ onYes → o' ≡ orders g ++ drop (g.lanes * count g.net) o → c' ≡ c
-          → Checked onYes onNo g o o' c c' r
+      pub says_yes : (o' c' : List ℕ) (r : X) → verdict g ≡ fine → r ≡ on_yes → o' ≡ orders g ++ drop (g.lanes * count g.net) o → c' ≡ c
+          → Checked on_yes on_no g o o' c c' r
       says_yes o' c' r e y p q = at fine e o' c' r (y, p, q)
 
 -- What is checked so is a yes exactly for an accepted setup.
-pub yes_exactly : {X : Type 0} (onYes : X) (onNo : RuleFault → X) (g : Setup) (o o' c c' : List ℕ) (r : X) → ((f : RuleFault) → onNo f ≡ onYes → ⊥)
-    → Checked onYes onNo g o o' c c' r → YesExactly onYes g (length o) (length c) r
-yes_exactly {X} onYes onNo g o o' c c' r apart s few long =
-    go (verdict g) refl (subst (λ (z : Finding). Settles onYes onNo g z o o' c c' r) (found_verdict g o c (sym few) (sym long)) s)
+pub yes_exactly : {X : Type 0} (on_yes : X) (on_no : RuleFault → X) (g : Setup) (o o' c c' : List ℕ) (r : X) → ((f : RuleFault) → on_no f ≡ on_yes → ⊥)
+    → Checked on_yes on_no g o o' c c' r → YesExactly on_yes g (length o) (length c) r
+yes_exactly {X} on_yes on_no g o o' c c' r apart s few long =
+    go (verdict g) refl (subst (λ (z : Finding). Settles on_yes on_no g z o o' c c' r) (found_verdict g o c (sym few) (sym long)) s)
   where
-    refusal : (f : RuleFault) → r ≡ onNo f → (fine ≡ verdict g → ⊥) → (r ≡ onYes → Accepts g) × (Accepts g → r ≡ onYes)
+    refusal : (f : RuleFault) → r ≡ on_no f → (fine ≡ verdict g → ⊥) → (r ≡ on_yes → Accepts g) × (Accepts g → r ≡ on_yes)
     refusal f e n = (λ y. absurd (apart f (sym e ∙ y)), λ A. absurd (n (sym ((verdict_exact_lem g).1 A))))
 
-    go : (v : Verdict) → verdict g ≡ v → Settles onYes onNo g (finding v) o o' c c' r → (r ≡ onYes → Accepts g) × (Accepts g → r ≡ onYes)
+    go : (v : Verdict) → verdict g ≡ v → Settles on_yes on_no g (finding v) o o' c c' r → (r ≡ on_yes → Accepts g) × (Accepts g → r ≡ on_yes)
     go fine e t = (λ y. (verdict_exact_lem g).0 e, λ A. t.0)
     go (stopped s d u) e t = refusal t.0.0 t.0.2 (λ q. let z : ◌≡◌ {A = ℕ} 0 1 = cc in omega arith)
     go (unreached s d) e t = refusal t.0.0 t.0.2 (λ q. let z : ◌≡◌ {A = ℕ} 0 1 = cc in omega arith)

@@ -39,23 +39,23 @@ found g o c = cond (few_lanes g.lanes) (cond (long_enough g.lanes (count g.net) 
 abbrev pub orders : Setup → List ℕ
 orders g = joined (lane_order g.net g.rule) (below g.lanes)
 
--- The answer is `onNo` of a fault with this refusal.
+-- The answer is `on_no` of a fault with this refusal.
 abbrev pub Refuses : {X : Type 0} → (RuleFault → X) → Refusal → X → Type 0
-Refuses onNo x r = (f : RuleFault) × (rule_refusal f ≡ Some x) × (r ≡ onNo f)
+Refuses on_no x r = (f : RuleFault) × (rule_refusal f ≡ Some x) × (r ≡ on_no f)
 
 -- The answer r to what was found, and the order list o and the cycle list c before and after. A yes writes the orders, a cycle is
 -- written to its list, and every other byte stays.
 abbrev pub Settles : {X : Type 0} → X → (RuleFault → X) → Setup → Finding → List ℕ → List ℕ → List ℕ → List ℕ → X → Type 0
-Settles onYes onNo g passed o o' c c' r = (r ≡ onYes) × (o' ≡ orders g ++ drop (g.lanes * count g.net) o) × (c' ≡ c)
-Settles onYes onNo g (cycle_in ℓ) o o' c c' r =
+Settles on_yes on_no g passed o o' c c' r = (r ≡ on_yes) × (o' ≡ orders g ++ drop (g.lanes * count g.net) o) × (c' ≡ c)
+Settles on_yes on_no g (cycle_in ℓ) o o' c c' r =
     (cs : List ℕ) × (is_cycle (depends g.net g.rule ℓ) cs ≡ true)
-    × Refuses onNo (refuse rule_layer 8 (ℓ ∷ length cs ∷ [])) r × (o' ≡ o) × (c' ≡ cs ++ drop (length cs) c)
-Settles onYes onNo g (refused x) o o' c c' r = Refuses onNo x r × (o' ≡ o) × (c' ≡ c)
+    × Refuses on_no (refuse rule_layer 8 (ℓ ∷ length cs ∷ [])) r × (o' ≡ o) × (c' ≡ cs ++ drop (length cs) c)
+Settles on_yes on_no g (refused x) o o' c c' r = Refuses on_no x r × (o' ≡ o) × (c' ≡ c)
 
--- All that the check does, for an answer that is `onYes` or `onNo` of a fault.
+-- All that the check does, for an answer that is `on_yes` or `on_no` of a fault.
 abbrev pub Checked : {X : Type 0} → X → (RuleFault → X) → Setup → List ℕ → List ℕ → List ℕ → List ℕ → X → Type 0
-Checked onYes onNo g o o' c c' r = Settles onYes onNo g (found g (length o) (length c)) o o' c c' r
+Checked on_yes on_no g o o' c c' r = Settles on_yes on_no g (found g (length o) (length c)) o o' c c' r
 
--- Where the lanes and the lists suffice, the answer is `onYes` exactly when the setup is accepted.
+-- Where the lanes and the lists suffice, the answer is `on_yes` exactly when the setup is accepted.
 abbrev pub YesExactly : {X : Type 0} → X → Setup → ℕ → ℕ → X → Type 0
-YesExactly onYes g o c r = few_lanes g.lanes ≡ true → long_enough g.lanes (count g.net) o c ≡ true → (r ≡ onYes → Accepts g) × (Accepts g → r ≡ onYes)
+YesExactly on_yes g o c r = few_lanes g.lanes ≡ true → long_enough g.lanes (count g.net) o c ≡ true → (r ≡ on_yes → Accepts g) × (Accepts g → r ≡ on_yes)

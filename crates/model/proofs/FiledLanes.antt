@@ -184,13 +184,13 @@ module _ (net : Net) (table : List ℕ) where
         (λ b c h.
         elim ((filed_exactly lanes s d i p b c).0 h) [ inl q ↦ (s, d, p, q) | inr q ↦ (q.source, q.destination, q.pair, q.takes) ])
 
-    module _ (laneCount : ℕ) where
-      pub in_lowest : (lanes : List ℕ) (s d : ℕ) → is_pair net.switches s d ≡ true → InItsLane net bare laneCount lanes s d
+    module _ (lane_total : ℕ) where
+      pub in_lowest : (lanes : List ℕ) (s d : ℕ) → is_pair net.switches s d ≡ true → InItsLane net bare lane_total lanes s d
           → InLowest net (table_rule net.switches table lanes) s d
       in_lowest lanes s d p f =
           let rule = table_rule net.switches table lanes in
-          let f' : LowestLane net bare laneCount lanes s d (rule.lane s d) =
-          subst (LowestLane net bare laneCount lanes s d) (sym (lane_at_lem lanes s d p)) f in
+          let f' : LowestLane net bare lane_total lanes s d (rule.lane s d) =
+          subst (LowestLane net bare lane_total lanes s d) (sym (lane_at_lem lanes s d p)) f in
           record {
             fits =
                 (filed_closes lanes s d (rule.lane s d) p).0
@@ -205,7 +205,7 @@ module _ (net : Net) (table : List ℕ) where
           (filed_closes lanes s d m p).1 (none (filed_with net (table_rule net.switches table lanes) s d m) (filed_exactly lanes s d m p))
 
       pub filed_accepts : (ess : List (List Edge)) (lanes : List ℕ)
-          → Filing net bare laneCount (net.switches * net.switches) ess lanes → Accepts (plan_setup net laneCount table lanes)
+          → Filing net bare lane_total (net.switches * net.switches) ess lanes → Accepts (plan_setup net lane_total table lanes)
       filed_accepts ess lanes f =
           let n = net.switches in
           let rule = table_rule n table lanes in
@@ -213,7 +213,7 @@ module _ (net : Net) (table : List ℕ) where
           λ s d p. arrives_same net bare rule (λ u d. refl) s d (arrive s d p) in
           record {
             arrive = arrive';
-            in_lane = λ s d p. subst (λ (z : ℕ). z < laneCount) (sym (lane_at_lem lanes s d p)) (f.filed s d p (place_in n s d p)).exists;
+            in_lane = λ s d p. subst (λ (z : ℕ). z < lane_total) (sym (lane_at_lem lanes s d p)) (f.filed s d p (place_in n s d p)).exists;
             acyclic = λ ℓ l.
                 (cycle_exact_lem (count net) (lane_deps net rule ℓ) (lane_loopless net rule arrive' ℓ)).0
                 (completes_same (count net) (lane_deps net rule ℓ) (get_or ess ℓ [])

@@ -98,10 +98,10 @@ module _ (net : Net) (rule : Rule) where
         λ h. elim h [ inl q ↦ inl q | inr q ↦ inr (held_same lanes' lanes k i b c (λ x l. sym (same x l)) q) ],
       ))
 
-  module _ (laneCount : ℕ) where
+  module _ (lane_total : ℕ) where
     -- Lane i is the lowest in which no cycle closes by the pair (s, d) with those at lower places.
     pub record LowestLane (lanes : List ℕ) (s d i : ℕ) : Type 0 where
-      pub exists : i < laneCount
+      pub exists : i < lane_total
       pub fits : (es : List Edge) → Exactly (HeldWith lanes s d i) es → completes (count net) es ≡ true
       pub lower : (m : ℕ) → m < i → (es : List Edge) → Exactly (HeldWith lanes s d m) es → completes (count net) es ≡ false
 
@@ -111,9 +111,9 @@ module _ (net : Net) (rule : Rule) where
     -- The pairs at places below k are filed: each lane's dependencies so far, and the lane table so far.
     pub record Filing (k : ℕ) (ess : List (List Edge)) (lanes : List ℕ) : Type 0 where
       pub size : length lanes ≡ net.switches * net.switches
-      pub wide : length ess ≡ laneCount
-      pub whole : (i : ℕ) → i < laneCount → completes (count net) (get_or ess i []) ≡ true
-      pub holds : (i : ℕ) → i < laneCount → Exactly (Held lanes k i) (get_or ess i [])
+      pub wide : length ess ≡ lane_total
+      pub whole : (i : ℕ) → i < lane_total → completes (count net) (get_or ess i []) ≡ true
+      pub holds : (i : ℕ) → i < lane_total → Exactly (Held lanes k i) (get_or ess i [])
       pub filed : UpTo net.switches (InItsLane lanes) k
 
     lowest_same : (lanes lanes' : List ℕ) (s d i : ℕ) → Agree lanes lanes' (s * net.switches + d)
@@ -127,11 +127,11 @@ module _ (net : Net) (rule : Rule) where
         }
 
     -- At first nothing is filed.
-    pub filing_none : Filing 0 (replicate laneCount []) (replicate (net.switches * net.switches) 255)
+    pub filing_none : Filing 0 (replicate lane_total []) (replicate (net.switches * net.switches) 255)
     filing_none =
         record {
           size = length-replicate (net.switches * net.switches) 255;
-          wide = length-replicate laneCount [];
+          wide = length-replicate lane_total [];
           whole = λ i l. ap (completes (count net)) (empty i l) ∙ completes_none (count net);
           holds = λ i l.
               subst (Exactly (Held (replicate (net.switches * net.switches) 255) 0 i)) (sym (empty i l))
@@ -139,8 +139,8 @@ module _ (net : Net) (rule : Rule) where
           filed = up_to_none net.switches (InItsLane (replicate (net.switches * net.switches) 255));
         }
       where
-        empty : (i : ℕ) → i < laneCount → ◌≡◌ {A = List Edge} (get_or (replicate laneCount []) i []) []
-        empty i l = get_or-replicate laneCount i [] [] l
+        empty : (i : ℕ) → i < lane_total → ◌≡◌ {A = List Edge} (get_or (replicate lane_total []) i []) []
+        empty i l = get_or-replicate lane_total i [] [] l
 
     pub filing_skip : (s : ℕ) → s < net.switches → (ess : List (List Edge)) (lanes : List ℕ)
         → Filing (s * net.switches + s) ess lanes → Filing (suc (s * net.switches + s)) ess lanes
@@ -164,7 +164,7 @@ module _ (net : Net) (rule : Rule) where
 
     -- Whether the pair (s, d) fits lane m depends only on which dependencies there are.
     lane_stays : (s d : ℕ) (ess : List (List Edge)) (lanes : List ℕ) → Filing (s * net.switches + d) ess lanes
-        → (m : ℕ) → m < laneCount → (es : List Edge) → Exactly (HeldWith lanes s d m) es
+        → (m : ℕ) → m < lane_total → (es : List Edge) → Exactly (HeldWith lanes s d m) es
         → completes (count net) es ≡ stays (count net) (pair_deps s d) ess m
     lane_stays s d ess lanes f m l es h =
         let all = pair_deps s d ++ get_or ess m [] in
@@ -190,7 +190,7 @@ module _ (net : Net) (rule : Rule) where
       at_here : get_or lanes' here 255 ≡ i
       at_here = let l = place_in net.switches s d p in get_or-set_same lanes here i 255 (omega (arith, f.size))
 
-      in_lanes : i < laneCount
+      in_lanes : i < lane_total
       in_lanes = let l = (fits_some (count net) (pair_deps s d) ess i found).0 in omega (arith, f.wide)
 
       lowest : LowestLane lanes s d i
@@ -203,7 +203,7 @@ module _ (net : Net) (rule : Rule) where
             lower = λ m l es h. lane_stays s d ess lanes f m (omega arith) es h ∙ r.2 m l;
           }
 
-      holds_more : (j : ℕ) → j < laneCount → Exactly (Held lanes' (suc here) j) (get_or ess' j [])
+      holds_more : (j : ℕ) → j < lane_total → Exactly (Held lanes' (suc here) j) (get_or ess' j [])
       holds_more j l =
           elim (cases_eq j i) [
             | inl e ↦
@@ -297,7 +297,7 @@ module _ (net : Net) (rule : Rule) where
       pub pair : is_pair net.switches source destination ≡ true
       pub lanes : List ℕ
       pub before : UpTo net.switches (InItsLane lanes) (source * net.switches + destination)
-      pub none : (m : ℕ) → m < laneCount → (es : List Edge) → Exactly (HeldWith lanes source destination m) es
+      pub none : (m : ℕ) → m < lane_total → (es : List Edge) → Exactly (HeldWith lanes source destination m) es
           → completes (count net) es ≡ false
 
     module _ (table : List ℕ) where
@@ -337,9 +337,9 @@ module _ (net : Net) (rule : Rule) where
               ih (set ess i (pair_deps s d ++ get_or ess i [])) (set lanes (s * net.switches + d) i) (filing_more s d p ess lanes f i e)
 
       pub filing_says : FilingSays
-          (file_from net rule table (pairs_of net.switches) (replicate laneCount []) (replicate (net.switches * net.switches) 255))
+          (file_from net rule table (pairs_of net.switches) (replicate lane_total []) (replicate (net.switches * net.switches) 255))
       filing_says =
           on_pairs_lem net.switches FilingOn
           (λ s l ps ih ess lanes f. ih ess lanes (filing_skip s l ess lanes f))
           filing_on (λ ess lanes f. (refl, ess, f))
-          (replicate laneCount []) (replicate (net.switches * net.switches) 255) filing_none
+          (replicate lane_total []) (replicate (net.switches * net.switches) 255) filing_none

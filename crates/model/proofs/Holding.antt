@@ -81,11 +81,11 @@ pub hold_equation : (k : ℕ → ℕ) (n : ℕ) (es : List Edge) → completes n
 hold_equation k n es s inside c l = enough k es n c (ways_end n es s inside c l)
 
 pub hold_exact_lem : HoldExact
-hold_exact_lem g a ℓ c inLanes l =
+hold_exact_lem g a ℓ c laned l =
     let es = lane_deps g.net g.rule ℓ in
     let f : ℕ → ℕ = λ c'. turn_cost (position_count g.net c') (hold g ℓ c') in
     let e : hold g ℓ c ≡ largest f c es =
-    hold_equation (position_count g.net) (count g.net) es (accepted_completes g a ℓ inLanes) (deps_inside g.net g.rule ℓ) c l in
+    hold_equation (position_count g.net) (count g.net) es (accepted_completes g a ℓ laned) (deps_inside g.net g.rule ℓ) c l in
     record {
       one = subst (λ (z : ℕ). 1 ≤ z) (sym e) (largest_one f c es);
       each = λ c' d. subst (λ (z : ℕ). f c' ≤ z) (sym e) (largest_least f c c' es d);

@@ -132,37 +132,37 @@ plan_says net ok lanes given out e = go (refusal_for net given) refl (sym (plann
         inr (all_arrive net ok given q, subst (FilingSays net rule lanes table) w (filing_says net rule lanes table))
     go (Some r) q w = inl (r, q, sym w)
 
-tables_filed : (net : Net) → Sound net → (lanes : ℕ) (given : Option (List ℕ)) (table laneTable : List ℕ)
-    → planned net lanes given ≡ tables table laneTable → Filed net lanes given (tables table laneTable)
-tables_filed net ok lanes given table laneTable e =
-    elim (plan_says net ok lanes given (tables table laneTable) e) [
+tables_filed : (net : Net) → Sound net → (lanes : ℕ) (given : Option (List ℕ)) (table lane_table : List ℕ)
+    → planned net lanes given ≡ tables table lane_table → Filed net lanes given (tables table lane_table)
+tables_filed net ok lanes given table lane_table e =
+    elim (plan_says net ok lanes given (tables table lane_table) e) [
       | inl r ↦ let w = r.2 in let z : ◌≡◌ {A = ℕ} 0 1 = cc in absurd (omega arith)
       | inr f ↦ f
     ]
 
 pub plan_accepted_lem : PlanAccepted
-plan_accepted_lem net lanes given table laneTable ok e =
-    let f = tables_filed net ok lanes given table laneTable e in
-    subst (λ (z : List ℕ). Accepts (plan_setup net lanes z laneTable)) (sym f.1.0)
-    (filed_accepts net (table_for net given) f.0 lanes f.1.1 laneTable f.1.2)
+plan_accepted_lem net lanes given table lane_table ok e =
+    let f = tables_filed net ok lanes given table lane_table e in
+    subst (λ (z : List ℕ). Accepts (plan_setup net lanes z lane_table)) (sym f.1.0)
+    (filed_accepts net (table_for net given) f.0 lanes f.1.1 lane_table f.1.2)
 
 pub plan_shortest_lem : PlanShortest
-plan_shortest_lem net lanes table laneTable ok e s d p k w =
+plan_shortest_lem net lanes table lane_table ok e s d p k w =
     let n = net.switches in
-    let f = tables_filed net ok lanes None table laneTable e in
+    let f = tables_filed net ok lanes None table lane_table e in
     let q = pair_parts n s d p in
     let far = walk_hops net ok s d k q.0 q.1 w in
     let least = (hops_some net ok s d far.0 q.0 q.1 far.1).2 k w in
-    subst (λ (z : List ℕ). length (route net (table_rule n z laneTable) s d) ≤ k) (sym f.1.0)
-    (let rule = table_rule n (table_for net None) laneTable in
-    let len = (nearer_arrives net ok rule (table_chosen net ok laneTable) s d far.0 p far.1).1 in omega arith)
+    subst (λ (z : List ℕ). length (route net (table_rule n z lane_table) s d) ≤ k) (sym f.1.0)
+    (let rule = table_rule n (table_for net None) lane_table in
+    let len = (nearer_arrives net ok rule (table_chosen net ok lane_table) s d far.0 p far.1).1 in omega arith)
 
 pub plan_lowest_lem : PlanLowest
-plan_lowest_lem net lanes given table laneTable ok e s d p =
+plan_lowest_lem net lanes given table lane_table ok e s d p =
     let n = net.switches in
-    let f = tables_filed net ok lanes given table laneTable e in
-    subst (λ (z : List ℕ). InLowest net (table_rule n z laneTable) s d) (sym f.1.0)
-    (in_lowest net (table_for net given) f.0 lanes laneTable s d p (f.1.2.filed s d p (place_in n s d p)))
+    let f = tables_filed net ok lanes given table lane_table e in
+    subst (λ (z : List ℕ). InLowest net (table_rule n z lane_table) s d) (sym f.1.0)
+    (in_lowest net (table_for net given) f.0 lanes lane_table s d p (f.1.2.filed s d p (place_in n s d p)))
 
 -- The number of a refusal, and what holds at its place.
 refused_number : (layer : Layer) (m : ℕ) (at : List ℕ) (r : Refusal) → refused (refuse layer m at) ≡ refused r → m ≡ r.number
@@ -219,12 +219,12 @@ paths_exact_lem net lanes ok =
           ap (λ (m : Option Refusal). unless m (filed net lanes (hop_table net))) e ∙ ap (λ (z : Refusal). refused z) h.says,
         )
 
-by_table : (net : Net) → Sound net → (given : Option (List ℕ)) (laneTable : List ℕ)
-    → ByTable net given (table_rule net.switches (table_for net given) laneTable)
-by_table net ok None laneTable = table_chosen net ok laneTable
-by_table net ok (Some given) laneTable = λ u d p.
+by_table : (net : Net) → Sound net → (given : Option (List ℕ)) (lane_table : List ℕ)
+    → ByTable net given (table_rule net.switches (table_for net given) lane_table)
+by_table net ok None lane_table = table_chosen net ok lane_table
+by_table net ok (Some given) lane_table = λ u d p.
     let n = net.switches in
-    square_next n (λ u d. get_or given (u * n + d) 255) laneTable u d p
+    square_next n (λ u d. get_or given (u * n + d) 255) lane_table u d p
     ∙ sym (cond-true (is_pair n u d) (channel_byte (get_or given (u * n + d) 255)) None p)
 
 pub lanes_exact_lem : LanesExact

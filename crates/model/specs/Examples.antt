@@ -115,13 +115,13 @@ Session =
 
 -- All of them.
 pub record Worked : Type 0 where
-  pub ring_planned_lem : RingPlanned
-  pub ring_order_lem : RingOrder
-  pub ring_patience_lem : RingPatience
-  pub ring_accepted_lem : RingAccepted
-  pub round_two_lanes_lem : RoundTwoLanes
-  pub round_one_lane_lem : RoundOneLane
-  pub round_cycle_lem : RoundCycle
-  pub one_link_patience_lem : OneLinkPatience
-  pub grid_routes_lem : GridRoutes
+  pub ring_planned : RingPlanned
+  pub ring_order : RingOrder
+  pub ring_patience : RingPatience
+  pub ring_accepted : RingAccepted
+  pub round_two_lanes : RoundTwoLanes
+  pub round_one_lane : RoundOneLane
+  pub round_cycle : RoundCycle
+  pub one_link_patience : OneLinkPatience
+  pub grid_routes : GridRoutes
   pub session : Session

@@ -17,19 +17,19 @@ pub record Sound (net : Net) : Type 0 where
 
 -- The setup of planned tables.
 abbrev pub plan_setup : Net → ℕ → List ℕ → List ℕ → Setup
-plan_setup net lanes hop_table laneTable = record { net = net; lanes = lanes; rule = table_rule net.switches hop_table laneTable }
+plan_setup net lanes hop_table lane_table = record { net = net; lanes = lanes; rule = table_rule net.switches hop_table lane_table }
 
 -- A plan is accepted with the lane count that it was made for, whether its channel table was given or not.
 abbrev pub PlanAccepted : Type 0
-PlanAccepted = (net : Net) (lanes : ℕ) (given : Option (List ℕ)) (hop_table laneTable : List ℕ) → Sound net
-    → planned net lanes given ≡ tables hop_table laneTable → Accepts (plan_setup net lanes hop_table laneTable)
+PlanAccepted = (net : Net) (lanes : ℕ) (given : Option (List ℕ)) (hop_table lane_table : List ℕ) → Sound net
+    → planned net lanes given ≡ tables hop_table lane_table → Accepts (plan_setup net lanes hop_table lane_table)
 
 -- No path is shorter than a route of a plan made without a given table.
 abbrev pub PlanShortest : Type 0
-PlanShortest = (net : Net) (lanes : ℕ) (hop_table laneTable : List ℕ) → Sound net
-    → planned net lanes None ≡ tables hop_table laneTable
+PlanShortest = (net : Net) (lanes : ℕ) (hop_table lane_table : List ℕ) → Sound net
+    → planned net lanes None ≡ tables hop_table lane_table
     → (s d : ℕ) → is_pair net.switches s d ≡ true
-    → (k : ℕ) → Walk (joins net) net.switches s k d → length (route net (table_rule net.switches hop_table laneTable) s d) ≤ k
+    → (k : ℕ) → Walk (joins net) net.switches s k d → length (route net (table_rule net.switches hop_table lane_table) s d) ≤ k
 
 -- The pair p comes before (s, d), by source and then destination.
 abbrev pub is_earlier : ℕ → ℕ → Pair → Bool
@@ -52,9 +52,9 @@ pub record InLowest (net : Net) (rule : Rule) (s d : ℕ) : Type 0 where
   pub lowest : (m : ℕ) → m < rule.lane s d → Closes (filed_with net rule s d m)
 
 abbrev pub PlanLowest : Type 0
-PlanLowest = (net : Net) (lanes : ℕ) (given : Option (List ℕ)) (hop_table laneTable : List ℕ) → Sound net
-    → planned net lanes given ≡ tables hop_table laneTable
-    → (s d : ℕ) → is_pair net.switches s d ≡ true → InLowest net (table_rule net.switches hop_table laneTable) s d
+PlanLowest = (net : Net) (lanes : ℕ) (given : Option (List ℕ)) (hop_table lane_table : List ℕ) → Sound net
+    → planned net lanes given ≡ tables hop_table lane_table
+    → (s d : ℕ) → is_pair net.switches s d ≡ true → InLowest net (table_rule net.switches hop_table lane_table) s d
 
 -- No walk of any length leads from s to d.
 abbrev pub Apart : Net → ℕ → ℕ → Type 0

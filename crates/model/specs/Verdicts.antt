@@ -23,9 +23,9 @@ pub data Verdict : Type 0 where
 
 -- What a pair's ending and lane say; `rest` where both are right.
 abbrev pub pair_verdict : ℕ → ℕ → Bool → Ending → Verdict → Verdict
-pair_verdict s d inLanes arrives rest = cond inLanes rest (laneless s d)
-pair_verdict s d inLanes (stops u) rest = stopped s d u
-pair_verdict s d inLanes tires rest = unreached s d
+pair_verdict s d laned arrives rest = cond laned rest (laneless s d)
+pair_verdict s d laned (stops u) rest = stopped s d u
+pair_verdict s d laned tires rest = unreached s d
 
 abbrev pub lanes_verdict : Net → Rule → List ℕ → Verdict
 lanes_verdict net rule [] = fine

@@ -12,8 +12,8 @@ abbrev pub leads_to : List Bool → ℕ → ℕ → Bool
 leads_to cells b c = not (b == c) && edge_at cells b c
 
 -- no node leads to itself
-pub loopless : (cells : List Bool) (c : ℕ) → leads_to cells c c ≡ false
-loopless cells c = simp (eq-eqb c c refl)
+pub no_loop : (cells : List Bool) (c : ℕ) → leads_to cells c c ≡ false
+no_loop cells c = simp (eq-eqb c c refl)
 
 -- The dependencies e, and those of the cells.
 abbrev pub with : List Bool → (ℕ → ℕ → Bool) → ℕ → ℕ → Bool

@@ -18,8 +18,8 @@ route_fault net rule s d = cond (s == d) None (ending_refusal s d (route_ends ne
 
 -- A test: passed where nothing is refused, else the refusal.
 abbrev pub Judges : {F : Type 0} → (F → Option Refusal) → Option Refusal → Result (Unit {0}) F → Type 0
-Judges refusalOf o (Ok _) = o ≡ None
-Judges refusalOf o (Err f) = (r : Refusal) × (o ≡ Some r) × (refusalOf f ≡ Some r)
+Judges refusal_of o (Ok _) = o ≡ None
+Judges refusal_of o (Err f) = (r : Refusal) × (o ≡ Some r) × (refusal_of f ≡ Some r)
 
 -- A channel table, if nothing is refused.
 abbrev pub Drafts : {X : Type 0} → Option Refusal → (X → Type 0) → Result X TopologyFault → Type 0

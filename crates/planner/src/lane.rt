@@ -2,7 +2,7 @@ ghost use Rattle.std.specs.Prelude.{◌≡◌, ◌<◌, ◌≤◌, false, replic
 ghost use Rattle.model.specs.Net.{count};
 ghost use Rattle.model.specs.Routes.{route, steps, has};
 ghost use Rattle.fabric.specs.Of.{net};
-ghost use Rattle.planner.specs.Cells.{edge_at, leads_to, loopless, Acyclic, Admits, Tried, Filed};
+ghost use Rattle.planner.specs.Cells.{edge_at, leads_to, no_loop, Acyclic, Admits, Tried, Filed};
 ghost use Rattle.planner.specs.Drafts.{rule_of};
 
 use crate::draft::Draft;
@@ -27,7 +27,7 @@ impl Graph for LaneDraft {
 
     ghost few = { λ x. x.few };
 
-    ghost loopless = { λ x. loopless x.cells };
+    ghost loopless = { λ x. no_loop x.cells };
 
     fn node_count(&self) -> u32 {
         self.channels as u32
