@@ -1,1 +1,3 @@
 pub mod Cables
+pub mod Feeders
+pub mod Joining

@@ -3,5 +3,4 @@ pub mod Faults
 pub mod Grids
 pub mod Of
 pub mod Makes
-pub mod Joining
-pub mod Feeders
+pub mod Switches

@@ -1,5 +1,5 @@
 -- What a fabric says.
-use Rattle.std.specs.Prelude.{◌≡◌, ℕ, ◌<◌, map, vec_items}
+use Rattle.std.specs.Prelude.{◌≡◌, ℕ, ◌<◌, map, vec_items, ◌≢◌}
 use Rattle.model.specs.Net.{Net, count, start_of, finish_of}
 use Rattle.fabric.specs.Channels.{plain}
 use Rattle.fabric.specs.declared.channel.Channel.{Channel}
@@ -18,7 +18,7 @@ pub record Joined (n : Net) (c : ℕ) (x : Channel) : Type 0 where
   pub ends : x.finish ≡ finish_of n c
   pub from : x.start < n.switches
   pub to : x.finish < n.switches
-  pub apart : x.start ≡ x.finish → ⊥
+  pub apart : x.start ≢ x.finish
 
 -- A position of channel c: c exists, and a channel that is a position exists and ends where c starts.
 abbrev pub Stands : Net → ℕ → Position → Type 0

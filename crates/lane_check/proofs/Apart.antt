@@ -9,7 +9,7 @@ use Rattle.model.proofs.Dependencies.{depends_on}
 use Rattle.fabric.specs.Channels.{Inside}
 use Rattle.fabric.specs.Of.{net}
 use Rattle.fabric.specs.declared.network.Fabric.{Fabric}
-use Rattle.fabric.specs.Feeders.{count_over}
+use Rattle.fabric.proofs.Feeders.{count_over}
 
 pub few_channels : (f : Fabric) → (1 ≤ count (net f)) × (count (net f) ≤ 128)
 few_channels f = let e = count_over f.switches (vec_items f.channels) in let s = f.sizes in (omega arith, omega arith)

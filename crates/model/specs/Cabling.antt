@@ -1,5 +1,5 @@
 -- Which switch counts and lists of link ends make a fabric, and how the others are refused.
-use Rattle.std.specs.Prelude.{◌≡◌, ℕ, ◌+◌, ◌*◌, ◌/◌, ◌%◌, ◌<◌, ◌≤◌, cond, ◌||◌, ◌⊎◌, List, [], ◌∷◌, length, Some, None, Option, MatchOption, ◌==◌, nat_le, nat_lt, slice_index, slice_index_or}
+use Rattle.std.specs.Prelude.{◌≡◌, ℕ, ◌+◌, ◌*◌, ◌/◌, ◌%◌, ◌<◌, ◌≤◌, cond, ◌||◌, ◌⊎◌, List, [], ◌∷◌, length, Some, None, Option, MatchOption, ◌==◌, nat_le, nat_lt, slice_index, ◌≢◌}
 use Rattle.model.specs.Refusals.{Refusal, fabric_layer, refuse}
 
 -- The refusals of the cabling.
@@ -31,9 +31,9 @@ cabling_refusal n ends =
 
 -- The same by relations. Link i joins two different switches below n.
 pub record Joins (n : ℕ) (ends : List ℕ) (i : ℕ) : Type 0 where
-  pub from : slice_index_or ends (2 * i) 0 < n
-  pub to : slice_index_or ends (2 * i + 1) 0 < n
-  pub apart : slice_index_or ends (2 * i) 0 ≡ slice_index ends (2 * i + 1) → ⊥
+  pub from : slice_index ends (2 * i) < n
+  pub to : slice_index ends (2 * i + 1) < n
+  pub apart : slice_index ends (2 * i) ≢ slice_index ends (2 * i + 1)
 
 -- The counts are right: 2 to 32 switches, 1 to 64 links of two ends each.
 pub record Counted (n : ℕ) (ends : List ℕ) : Type 0 where

@@ -1,5 +1,5 @@
 -- The planner: shortest routes, and each pair in the lowest lane that stays without a cycle.
-use Rattle.std.specs.Prelude.{ℕ, zero, suc, ◌+◌, ◌*◌, Bool, true, false, cond, List, [], ◌∷◌, ◌++◌, map, get_or, replicate, is_some, Some, None, Option, ◌==◌, slice_index_or, slice_set}
+use Rattle.std.specs.Prelude.{ℕ, zero, suc, ◌+◌, ◌*◌, Bool, true, false, cond, List, [], ◌∷◌, ◌++◌, map, replicate, is_some, Some, None, Option, ◌==◌, slice_index_or, slice_set}
 use Rattle.model.specs.Lists.{below, any_of, keep, joined, first}
 use Rattle.model.specs.Net.{Net, Channel, count, finish_of, leaves}
 use Rattle.model.specs.Refusals.{Refusal, refuse, rule_layer, topology_layer}
@@ -49,7 +49,7 @@ hop_table net = square net.switches (λ u d. byte_of (chosen (nearer net u d)))
 
 -- A given channel table, whose diagonal is not read.
 abbrev pub copied : ℕ → List ℕ → List ℕ
-copied n table = square n (λ u d. get_or table (u * n + d) 255)
+copied n table = square n (λ u d. slice_index_or table (u * n + d) 255)
 
 -- What the planner answers: a channel table and a lane table, or a refusal.
 pub data Planned : Type 0 where

@@ -1,7 +1,8 @@
 -- What a stage of the tests finds.
-use Rattle.std.proofs.Common.{◌≡◌, ℕ, ◌+◌, ◌*◌, Bool, true, false, not, List, length, take, drop, Some, None, Decides, Option, sym, refl, ap, ◌∙◌, subst, arith, MatchOption}
+use Rattle.std.proofs.Common.{◌≢◌, ◌≡◌, ℕ, ◌+◌, ◌*◌, Bool, true, false, not, List, length, take, drop, Some, None, Decides, Option, sym, refl, ap, ◌∙◌, subst, arith, MatchOption}
 use Rattle.std.specs.Str.{bytes_eq}
 use Rattle.std.proofs.lemmas.Slice.Eq.{bytes_eq-Decides}
+use Rattle.std.proofs.lemmas.Bool.{not-false, not-true, false≢true}
 use Rattle.std.proofs.lemmas.List.{length-take-le, length-drop}
 use Rattle.fabric.specs.Faults.{fabric_refusal}
 use Rattle.fabric.specs.declared.fault.FabricFault.{FabricFault}
@@ -27,22 +28,11 @@ cabling_fault bs ends f e o p h = by (fabric_refusal f) h
     by (Some r) h = cabling r o p (ap (λ (z : List ℕ). cabling_refusal (switches_in bs) z) (sym e) ∙ h)
 
 -- two tags, compared
-abbrev pub Compared : List ℕ → List ℕ → Bool → Type 0
-Compared xs ys r = r ≡ not (bytes_eq xs ys)
+pub tag_right : (xs ys : List ℕ) (r : Bool) → r ≡ not (bytes_eq xs ys) → r ≡ false → xs ≡ ys
+tag_right xs ys r h e = (bytes_eq-Decides xs ys).0 (not-false (bytes_eq xs ys) (sym h ∙ e))
 
-pub tag_right : (xs ys : List ℕ) (r : Bool) → Compared xs ys r → r ≡ false → xs ≡ ys
-tag_right xs ys r h e = by (bytes_eq xs ys) (bytes_eq-Decides xs ys) h
-  where
-    by : (x : Bool) → Decides x (xs ≡ ys) → r ≡ not x → xs ≡ ys
-    by true d q = d.0 refl
-    by false d q = let z : true ≡ false = sym q ∙ e in let y : ◌≡◌ {A = ℕ} 0 1 = cc in absurd (omega arith)
-
-pub tag_wrong : (xs ys : List ℕ) (r : Bool) → Compared xs ys r → r ≡ true → xs ≡ ys → ⊥
-tag_wrong xs ys r h e s = by (bytes_eq xs ys) (bytes_eq-Decides xs ys) h
-  where
-    by : (x : Bool) → Decides x (xs ≡ ys) → r ≡ not x → ⊥
-    by true d q = let z : true ≡ false = sym e ∙ q in let y : ◌≡◌ {A = ℕ} 0 1 = cc in omega arith
-    by false d q = let z : false ≡ true = d.1 s in let y : ◌≡◌ {A = ℕ} 0 1 = cc in omega arith
+pub tag_wrong : (xs ys : List ℕ) (r : Bool) → r ≡ not (bytes_eq xs ys) → r ≡ true → xs ≢ ys
+tag_wrong xs ys r h e s = false≢true (sym (not-true (bytes_eq xs ys) (sym h ∙ e)) ∙ (bytes_eq-Decides xs ys).1 s)
 
 -- a part of a list, with its bounds written otherwise
 pub part_same : (bs : List ℕ) (x y k m : ℕ) → x ≡ y → k ≡ m → take k (drop x bs) ≡ take m (drop y bs)

@@ -1,5 +1,5 @@
 -- The contents of a plan file: byte 0 is 3, and three entries of eight bytes follow.
-use Rattle.std.specs.Prelude.{◌≡◌, ℕ, ◌+◌, ◌*◌, ◌≤◌, List, [], length, take, drop, Some, None, Ok, Err, Option, Result, slice_index, slice_index_or}
+use Rattle.std.specs.Prelude.{◌≡◌, ℕ, ◌+◌, ◌*◌, ◌≤◌, List, [], length, take, drop, Some, None, Ok, Err, Option, Result, slice_index, ◌≢◌}
 use Rattle.model.specs.Refusals.{refuse, file_layer}
 use Rattle.planfile.specs.Faults.{file_refusal}
 use Rattle.planfile.specs.declared.contents.Contents.{Contents}
@@ -29,7 +29,7 @@ pub record EntryFrom (bs : List ℕ) (at : ℕ) (e : Entry) : Type 0 where
 -- What is taken from a list of bytes: an entry of exactly eight.
 abbrev pub Taken : List ℕ → Option Entry → Type 0
 Taken bs (Some e) = (length bs ≡ 8) × EntryFrom bs 0 e
-Taken bs None = length bs ≡ 8 → ⊥
+Taken bs None = length bs ≢ 8
 
 -- Entry e of a file, 0 to 2, begins here.
 abbrev pub entry_at : ℕ → ℕ
@@ -39,7 +39,7 @@ entry_at e = 1 + 8 * e
 pub record Formed (bs : List ℕ) : Type 0 where
   pub long : 25 ≤ length bs
   pub short : length bs ≤ 4096
-  pub edition : slice_index_or bs 0 0 ≡ 3
+  pub edition : slice_index bs 0 ≡ 3
   pub whole : length bs ≡ 25 + length_from bs (entry_at 0) + length_from bs (entry_at 1) + length_from bs (entry_at 2)
 
 -- The three entries of a file.

@@ -1,5 +1,5 @@
 -- Which lists of bytes are plan files, and how the others are refused.
-use Rattle.std.specs.Prelude.{◌≡◌, ℕ, zero, suc, ◌+◌, ◌-◌, ◌*◌, ◌%◌, ◌<◌, ◌≤◌, List, [], ◌∷◌, take, drop, Some, None, codes, ◌≢◌, slice_index, slice_index_or}
+use Rattle.std.specs.Prelude.{◌≡◌, ℕ, zero, suc, ◌+◌, ◌-◌, ◌*◌, ◌%◌, ◌<◌, ◌≤◌, List, [], ◌∷◌, take, drop, Some, None, codes, ◌≢◌, slice_index}
 use Rattle.model.specs.Cabling.{cabling_refusal}
 use Rattle.model.specs.Refusals.{Refusal, refuse, file_layer}
 use Rattle.planfile.specs.Contents.{entry_at, tag_from, offset_from, length_from, Formed}
@@ -100,7 +100,7 @@ Plain n xs k = (i : ℕ) → i < k → slice_index xs (i * n + i) ≡ 255
 pub record Marred (n : ℕ) (xs : List ℕ) (i : ℕ) : Type 0 where
   pub there : i < n
   pub before : Plain n xs i
-  pub here : slice_index_or xs (i * n + i) 0 ≡ 255 → ⊥
+  pub here : slice_index xs (i * n + i) ≢ 255
 
 -- The bytes are a plan file.
 pub record PlanFile (bs : List ℕ) : Type 0 where

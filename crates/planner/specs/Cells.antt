@@ -11,7 +11,7 @@ edge_at cells b c = nat_lt b 128 && nat_lt c 128 && slice_index_or cells (b * 12
 abbrev pub leads_to : List Bool → ℕ → ℕ → Bool
 leads_to cells b c = not (b == c) && edge_at cells b c
 
--- no node leads to itself
+-- no channel leads to itself
 pub no_loop : (cells : List Bool) (c : ℕ) → leads_to cells c c ≡ false
 no_loop cells c = simp (eq-eqb c c refl)
 

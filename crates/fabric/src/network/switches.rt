@@ -1,6 +1,6 @@
 ghost use Rattle.model.specs.Net.{joins};
 ghost use Rattle.fabric.specs.Of.{net};
-ghost use Rattle.fabric.specs.Joining;
+ghost use Rattle.fabric.specs.Switches;
 
 use crate::network::Fabric;
 use graph::Graph;
@@ -11,9 +11,9 @@ impl Graph for Fabric {
 
     ghost edge = { λ f u v. joins (net f) u v };
 
-    ghost few = { λ f. Joining.few_switches f.switches f.sizes.0 f.sizes.1 };
+    ghost few = { λ f. Switches.few_switches f.switches f.sizes.0 f.sizes.1 };
 
-    ghost loopless = { λ f u. Joining.loopless f.switches (net f).channels u f.inside };
+    ghost loopless = { λ f u. Switches.loopless f.switches (net f).channels u f.inside };
 
     fn node_count(&self) -> u32 {
         self.switch_count()

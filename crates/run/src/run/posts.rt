@@ -38,7 +38,7 @@ impl<R: RouteRule> Run<'_, R> {
 
     // Puts a packet into its sender slot.
     fn admit(&mut self, packet: Packet, lane: u8) -> Result<(), CallFault>
-        requires { (packet.source < 32) × ((packet.destination < 32) × (lane < 8)) }
+        requires { (packet.source < 32) × (packet.destination < 32) × (lane < 8) }
         ensures { Admits R.maps self.old packet lane self.new result }
     {
         if self.board.sender(packet.source, lane).is_some() {

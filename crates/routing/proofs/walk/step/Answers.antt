@@ -1,7 +1,7 @@
 use Rattle.std.proofs.Common.{◌≡◌, vec_items, arith}
 use Rattle.model.specs.Net.{Net, start_of}
 use Rattle.fabric.specs.Of.{net}
-use Rattle.fabric.specs.Feeders.{count_over}
+use Rattle.fabric.proofs.Feeders.{count_over}
 use Rattle.routing.proofs.Walking.{is_fit}
 use Rattle.routing.proofs.walk.step.Goals as goal
 

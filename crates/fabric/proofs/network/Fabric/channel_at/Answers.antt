@@ -4,7 +4,7 @@ use Rattle.std.proofs.lemmas.Option.{slice_get-get_or, slice_get_past}
 use Rattle.model.specs.Net.{Channel as ModelChannel, nowhere}
 use Rattle.fabric.specs.Channels.{plain}
 use Rattle.fabric.specs.declared.channel.Channel.{Channel}
-use Rattle.fabric.specs.Feeders.{blank, count_over}
+use Rattle.fabric.proofs.Feeders.{blank, count_over}
 use Rattle.fabric.proofs.network.Fabric.channel_at.Goals as goal
 
 pub returns-then-channel-channel_total : goal.returns-then-channel-channel_total

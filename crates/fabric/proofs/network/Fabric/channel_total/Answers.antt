@@ -1,5 +1,5 @@
 use Rattle.std.proofs.Common.{vec_items, arith}
-use Rattle.fabric.specs.Feeders.{count_over}
+use Rattle.fabric.proofs.Feeders.{count_over}
 use Rattle.fabric.proofs.network.Fabric.channel_total.Goals as goal
 
 pub returns : goal.returns

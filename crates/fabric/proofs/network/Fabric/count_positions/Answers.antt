@@ -3,7 +3,7 @@ use Rattle.model.specs.Net.{start_of}
 use Rattle.fabric.specs.Of.{net}
 use Rattle.fabric.specs.declared.channel.Channel.{Channel}
 use Rattle.fabric.specs.declared.network.Fabric.{Fabric}
-use Rattle.fabric.specs.Feeders.{feeders_from, feeder_here, feeder_elsewhere, feeders_end, count_over, positions_are, positions_none}
+use Rattle.fabric.proofs.Feeders.{feeders_from, feeder_here, feeder_elsewhere, feeders_end, count_over, positions_are, positions_none}
 use Rattle.fabric.proofs.network.Fabric.count_positions.Goals as goal
 use Rattle.fabric.proofs.network.Fabric.count_positions.Goals.{then-from-served, else-from-served}
 

@@ -1,5 +1,5 @@
 use Rattle.std.proofs.Common.{◌≡◌, ◌+◌, ◌≤◌, length, drop}
-use Rattle.fabric.specs.Feeders.{feeders_from}
+use Rattle.fabric.proofs.Feeders.{feeders_from}
 use Rattle.fabric.proofs.network.Fabric.count_positions.Given as goal
 
 abbrev pub invariant-loop-from : goal.invariant-loop-from

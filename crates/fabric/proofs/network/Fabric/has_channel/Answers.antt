@@ -2,7 +2,8 @@ use Rattle.std.proofs.Common.{List, map, sym, ap, ◌∙◌}
 use Rattle.model.specs.Lists.{any_of}
 use Rattle.fabric.specs.Channels.{plain}
 use Rattle.fabric.specs.declared.channel.Channel.{Channel}
-use Rattle.fabric.specs.Joining.{goes, joins_here, joins_later, joins_end}
+use Rattle.fabric.specs.Switches.{goes}
+use Rattle.fabric.proofs.Joining.{joins_here, joins_later, joins_end}
 use Rattle.fabric.proofs.network.Fabric.has_channel.Goals as goal
 use Rattle.fabric.proofs.network.Fabric.has_channel.Goals.{else-channel-from-via-then-channel-from+else-channel-to, else-channel-from-via-else-channel-from}
 

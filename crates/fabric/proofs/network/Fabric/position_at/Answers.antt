@@ -6,7 +6,7 @@ use Rattle.model.specs.Positions.{Position, positions, position_at}
 use Rattle.fabric.specs.Of.{net}
 use Rattle.fabric.specs.declared.channel.Channel.{Channel}
 use Rattle.fabric.specs.declared.network.Fabric.{Fabric}
-use Rattle.fabric.specs.Feeders.{blank, feeders_from, feeder_elsewhere, feeders_end, at_here, at_later, count_over, finish_over, positions_are, positions_none, nth_none}
+use Rattle.fabric.proofs.Feeders.{blank, feeders_from, feeder_elsewhere, feeders_end, at_here, at_later, count_over, finish_over, positions_are, positions_none, nth_none}
 use Rattle.fabric.proofs.network.Fabric.position_at.Goals as goal
 use Rattle.fabric.proofs.network.Fabric.position_at.Goals.{then-index-served+else-ahead-eq0, else-index-served}
 

@@ -1,6 +1,6 @@
 use Rattle.std.proofs.Common.{◌≡◌, ◌-◌, drop, vec_items}
 use Rattle.std.specs.List.{slice_get}
-use Rattle.fabric.specs.Feeders.{feeders_from}
+use Rattle.fabric.proofs.Feeders.{feeders_from}
 use Rattle.fabric.proofs.network.Fabric.position_at.Given as goal
 
 abbrev pub invariant-loop-from : goal.invariant-loop-from

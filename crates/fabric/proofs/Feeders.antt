@@ -1,5 +1,5 @@
 -- The positions of a channel, as a loop over the channels finds them.
-use Rattle.std.specs.Prelude.{◌≡◌, ℕ, zero, suc, ◌+◌, ◌-◌, ◌<◌, ◌≤◌, true, false, cond, ltb, List, [], ◌∷◌, map, length, drop, Some, None, ◌==◌, ◌≢◌, nat_lt, slice_index_or, refl}
+use Rattle.std.proofs.Common.{◌≡◌, ℕ, zero, suc, ◌+◌, ◌-◌, ◌<◌, ◌≤◌, true, false, cond, ltb, List, [], ◌∷◌, map, length, drop, Some, None, ◌==◌, ◌≢◌, nat_lt, get_or, refl}
 use Rattle.std.proofs.Common.{sym, ap, ◌∙◌, arith, add-one}
 use Rattle.std.proofs.lemmas.List.{drop_more, drop_all, get_or-map, length-map}
 use Rattle.std.proofs.lemmas.Bool.{eq-eqb, ne_eqb, lt-ltb, le-ltb, cond-true, cond-false}
@@ -20,11 +20,11 @@ feeders_from u i [] = []
 feeders_from u i (x ∷ xs) = cond (x.finish == u) (over i ∷ feeders_from u (i + 1) xs) (feeders_from u (i + 1) xs)
 
 -- one channel more
-pub feeder_here : (u i : ℕ) (xs : List Channel) → i < length xs → (slice_index_or xs i blank).finish ≡ u
+pub feeder_here : (u i : ℕ) (xs : List Channel) → i < length xs → (get_or xs i blank).finish ≡ u
     → feeders_from u i (drop i xs) ≡ over i ∷ feeders_from u (i + 1) (drop (i + 1) xs)
 feeder_here u i xs h e = ap (λ (z : List Channel). feeders_from u i z) (drop_more xs i blank h) ∙ cond-true _ _ _ (eq-eqb _ _ e)
 
-pub feeder_elsewhere : (u i : ℕ) (xs : List Channel) → i < length xs → ((slice_index_or xs i blank).finish ≢ u)
+pub feeder_elsewhere : (u i : ℕ) (xs : List Channel) → i < length xs → ((get_or xs i blank).finish ≢ u)
     → feeders_from u i (drop i xs) ≡ feeders_from u (i + 1) (drop (i + 1) xs)
 feeder_elsewhere u i xs h e = ap (λ (z : List Channel). feeders_from u i z) (drop_more xs i blank h) ∙ cond-false _ _ _ (ne_eqb _ _ e)
 
@@ -38,14 +38,14 @@ net_over n xs = record { switches = n; channels = map plain xs }
 pub count_over : (n : ℕ) (xs : List Channel) → count (net_over n xs) ≡ length xs
 count_over n xs = length-map xs plain
 
-pub finish_over : (n c : ℕ) (xs : List Channel) → c < length xs → finish_of (net_over n xs) c ≡ (slice_index_or xs c blank).finish
+pub finish_over : (n c : ℕ) (xs : List Channel) → c < length xs → finish_of (net_over n xs) c ≡ (get_or xs c blank).finish
 finish_over n c xs h = ap (λ (x : Rattle.model.specs.Net.Channel). x.finish) (get_or-map plain xs c blank nowhere h)
 
-pub start_over : (n c : ℕ) (xs : List Channel) → c < length xs → start_of (net_over n xs) c ≡ (slice_index_or xs c blank).start
+pub start_over : (n c : ℕ) (xs : List Channel) → c < length xs → start_of (net_over n xs) c ≡ (get_or xs c blank).start
 start_over n c xs h = ap (λ (x : Rattle.model.specs.Net.Channel). x.start) (get_or-map plain xs c blank nowhere h)
 
 kept : (net : Net) (c i : ℕ) (xs : List Channel) → nat_lt c (count net) ≡ true
-    → ((j : ℕ) → j < length xs → finish_of net (i + j) ≡ (slice_index_or xs j blank).finish)
+    → ((j : ℕ) → j < length xs → finish_of net (i + j) ≡ (get_or xs j blank).finish)
     → keep (λ x. feeds net x c) (map over (up_from (length xs) i)) ≡ feeders_from (start_of net c) i xs
 kept net c i [] h at = refl
 kept net c i (x ∷ xs) h at =
@@ -86,11 +86,11 @@ nth_none (x ∷ xs) zero h = let z : ◌≡◌ {A = ℕ} 0 1 = cc in absurd (ome
 nth_none (x ∷ xs) (suc i) h = let l = nth_none xs i h in omega arith
 
 -- what stands at place n among the feeders from i on, by channel i
-pub at_here : (u i n : ℕ) (xs : List Channel) → i < length xs → (slice_index_or xs i blank).finish ≡ u → n ≡ 0
+pub at_here : (u i n : ℕ) (xs : List Channel) → i < length xs → (get_or xs i blank).finish ≡ u → n ≡ 0
     → slice_get (feeders_from u i (drop i xs)) n ≡ Some (over i)
 at_here u i n xs h e z = ap (λ (m : ℕ). slice_get (feeders_from u i (drop i xs)) m) z ∙ ap (λ (ps : List Position). slice_get ps 0) (feeder_here u i xs h e)
 
-pub at_later : (u i n : ℕ) (xs : List Channel) → i < length xs → (slice_index_or xs i blank).finish ≡ u → (n ≢ 0)
+pub at_later : (u i n : ℕ) (xs : List Channel) → i < length xs → (get_or xs i blank).finish ≡ u → (n ≢ 0)
     → slice_get (feeders_from u i (drop i xs)) n ≡ slice_get (feeders_from u (i + 1) (drop (i + 1) xs)) (n - 1)
 at_later u i n xs h e z =
     let s : n ≡ suc (n - 1) = omega arith in
