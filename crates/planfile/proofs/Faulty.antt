@@ -1,5 +1,5 @@
 -- What a stage of the tests finds.
-use Rattle.std.proofs.Common.{◌≢◌, ◌≡◌, ℕ, ◌+◌, ◌*◌, Bool, true, false, not, List, length, take, drop, Some, None, Decides, Option, sym, refl, ap, ◌∙◌, subst, arith, MatchOption}
+use Rattle.std.proofs.Common.{◌≢◌, ◌≡◌, ℕ, ◌+◌, ◌*◌, Bool, true, false, not, List, length, take, drop, Some, None, Decides, Option, sym, ap, ◌∙◌, subst, arith, MatchOption}
 use Rattle.std.specs.Str.{bytes_eq}
 use Rattle.std.proofs.lemmas.Slice.Eq.{bytes_eq-Decides}
 use Rattle.std.proofs.lemmas.Bool.{not-false, not-true, false≢true}
