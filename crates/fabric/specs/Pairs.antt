@@ -1,5 +1,5 @@
 -- Pairs of a fabric's switches, and the order in which they come.
-use Rattle.std.specs.Prelude.{◌≡◌, ℕ, ◌<◌, true, false, List, [], ◌∷◌, Some, None, Option}
+use Rattle.std.specs.Prelude.{◌≡◌, ℕ, true, false, List, [], ◌∷◌, Some, None, Option}
 use Rattle.model.specs.Net.{is_pair}
 use Rattle.model.specs.Routes.{Pair}
 use Rattle.model.specs.Pairs.{pairs_left}

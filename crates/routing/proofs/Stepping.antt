@@ -1,14 +1,14 @@
 -- The steps of a route.
-use Rattle.std.proofs.Common.{◌≡◌, ℕ, ◌<◌, List, ◌∷◌, Some, Option, sym, ap, subst, ◌∙◌, ◌≢◌}
-use Rattle.model.specs.Net.{Net, count, start_of, finish_of}
+use Rattle.std.proofs.Common.{◌≡◌, ℕ, ◌<◌, List, ◌∷◌, Some, Option, sym, ap, ◌∙◌, ◌≢◌}
+use Rattle.model.specs.Net.{count, start_of, finish_of}
 use Rattle.model.specs.Rules.{Rule}
-use Rattle.model.specs.Routes.{Edge, steps}
+use Rattle.model.specs.Routes.{steps}
 use Rattle.fabric.specs.Of.{net}
 use Rattle.fabric.specs.declared.network.Fabric.{Fabric}
 use Rattle.routing.specs.declared.route.Route.{Route}
 use Rattle.routing.specs.declared.route.Steps.{Steps}
 use Rattle.routing.specs.declared.walk.Hop.{Hop}
-use Rattle.routing.specs.Ways.{way, steps_after, steps_left, edge_of, IsStep, NextHop, NextStep}
+use Rattle.routing.specs.Ways.{way, steps_after, steps_left, edge_of, IsStep, NextHop}
 
 -- a channel of a fabric is not followed by itself
 apart : (f : Fabric) (u c d : ℕ) → c < count (net f) → finish_of (net f) c ≡ u → start_of (net f) d ≡ u → c ≢ d

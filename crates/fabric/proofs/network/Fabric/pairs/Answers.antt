@@ -1,4 +1,4 @@
-use Rattle.std.proofs.Common.{ap, ◌∙◌, arith}
+use Rattle.std.proofs.Common.{ap, ◌∙◌}
 use Rattle.model.specs.Pairs.{pairs_left}
 use Rattle.model.proofs.PairsLeft.{pairs_left_lem}
 use Rattle.fabric.proofs.network.Fabric.pairs.Goals as goal

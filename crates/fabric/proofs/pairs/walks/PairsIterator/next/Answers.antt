@@ -1,6 +1,5 @@
-use Rattle.std.proofs.Common.{rules, ◌≡◌, ℕ, ◌+◌, ◌<◌, ◌*◌, ◌∙◌, sym, ap, arith, List, ◌∷◌, ◌/◌, ◌%◌, length}
+use Rattle.std.proofs.Common.{◌≡◌, ℕ, ◌+◌, ◌*◌, ◌∙◌, sym, ap, arith, ◌∷◌, ◌/◌, ◌%◌, length}
 use Rattle.model.specs.Pairs.{pairs_left}
-use Rattle.model.specs.Routes.{Pair}
 use Rattle.model.proofs.PairsLeft.{left_none}
 use Rattle.fabric.specs.Pairs.{left}
 use Rattle.fabric.proofs.Pairing.{cell_pair, pair_more, pair_skip}

@@ -1,5 +1,3 @@
-use Rattle.std.proofs.Common.{subst, Some}
-use Rattle.routing.specs.Ways.{NextHop}
 use Rattle.routing.proofs.Stepping.{next_step}
 use Rattle.routing.proofs.route.pairwise.StepsIterator.next.Goals as goal
 
