@@ -51,7 +51,8 @@ fn advance<G: Graph>(graph: &G, row: &mut [Option<u8>; 128], round: u8) -> bool
 
 // Fills a row in which nothing is reached.
 fn spread<G: Graph>(graph: &G, row: &mut [Option<u8>; 128], from: u32)
-    requires { (from < G.nodes graph.now) × Blank row.old }
+    requires inside { from < G.nodes graph.now }
+    requires blank { Blank row.old }
     ensures { Row (G.edge graph.now) (G.nodes graph.now) from row.new }
 {
     row[from as usize] = Some(0);
