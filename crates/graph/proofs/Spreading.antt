@@ -17,6 +17,7 @@ pub record Sound (e : ℕ → ℕ → Bool) (n a r : ℕ) (xs : List (Option ℕ
   pub closed : (u v k : ℕ) → u < n → v < n → row_at xs u ≡ Some k → k < r → e u v ≡ true → IsSomeAnd (row_at xs v) (λ j. j ≤ k + 1)
   pub beyond : (v : ℕ) → n ≤ v → row_at xs v ≡ None
 
+-- one of the n nodes is reached before the first round
 pub first_count : (n a : ℕ) (xs : List (Option ℕ)) → Blank xs → a < n → n ≤ length xs → unreached (set xs a (Some 0)) n < n
 first_count n a xs b h few = omega (arith, unreached-set xs a 0 n h (omega arith) (simp (b a)), count_by-le-length is_none (take n xs), length-take n xs)
 
@@ -59,6 +60,7 @@ lower e n a r xs s low (suc j) v h w =
       | inr q ↦ let k = rw q.1 at ih in let t = s.closed w.0 v q.0 w.1 h q.1 (omega (arith, low w.0 q.0 q.1)) w.3 in grind (arith, k, t)
     ]
 
+-- a round that changes nothing is the last
 pub whole : (e : ℕ → ℕ → Bool) (n a r : ℕ) (xs ys : List (Option ℕ)) → a < n → r < n → Sound e n a r xs → Grown e n r n xs ys false → Row e n a ys
 whole e n a r xs ys ha hr s x v = elim (option_cases (row_at ys v)) [
   | inl q ↦ rw q (λ ha hv j w. rw q at least j hv w)

@@ -10,8 +10,5 @@ loop-round-init g c =
 pub loop-round-preserved : goal.loop-round-preserved
 loop-round-preserved g c = record { sound = next _ _ _ _ _ _ _ c.loop-round.invariant.sound c.advance.ensures; count = omega (arith, c.if-not-advance.ensures.change) }
 
-pub returns-after-loop-round : goal.returns-after-loop-round
-returns-after-loop-round g c = absurd (omega (arith, (g.met.G.Graph.few c.args.graph.now).1))
-
 pub returns-then-not-advance : goal.returns-then-not-advance
 returns-then-not-advance g c = whole _ _ _ _ _ _ c.requires.inside (omega arith) c.loop-round.invariant.sound c.if-not-advance.ensures
