@@ -1,4 +1,4 @@
-ghost use Rattle.std.specs.Prelude.{◌≡◌, ◌<◌, ◌≤◌, MatchOption};
+ghost use Rattle.std.specs.Prelude.{◌≡◌, ◌<◌, ◌≤◌, map, length, MatchOption};
 ghost use Rattle.std.specs.List.{slice_get};
 ghost use Rattle.std.specs.Option.{option_map};
 ghost use Rattle.model.specs.Net.{count};
@@ -23,6 +23,14 @@ impl Fabric {
         ensures range { (1 ≤ result) × (result ≤ 128) }
     {
         self.channel_total()
+    }
+
+    // The channels in the order of their numbers.
+    pub fn channels(&self) -> &[Channel]
+        ensures is { map plain result.now ≡ (net self.now).channels }
+        ensures range { (1 ≤ length result.now) × (length result.now ≤ 128) }
+    {
+        &self.channels
     }
 
     // The channel of this number.
