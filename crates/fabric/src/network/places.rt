@@ -11,30 +11,12 @@ use crate::network::Fabric;
 use crate::position::Position;
 
 impl Fabric {
-    pub(super) fn channel_total(&self) -> u32
-        ensures is { result ≡ count (net self.now) }
-        ensures range { (1 ≤ result) × (result ≤ 128) }
-    {
-        self.channels.len() as u32
-    }
-
-    // The channel of this number.
-    pub(super) fn channel_at(&self, channel: u32) -> Option<Channel>
-        ensures is { option_map plain result ≡ slice_get (net self.now).channels channel }
-        ensures joins { MatchOption result (count (net self.now) ≤ channel) (Joined (net self.now) channel) }
-    {
-        if channel >= self.channel_total() {
-            return None;
-        }
-        Some(self.channels[channel as usize])
-    }
-
     // How many positions a channel has; 0 for a channel that does not exist.
     pub(super) fn count_positions(&self, channel: u32) -> u32
         ensures is { result ≡ position_count (net self.now) channel }
         ensures range { result ≤ 129 }
     {
-        let Some(served) = self.channel_at(channel) else {
+        let Some(served) = self.channel(channel) else {
             return 0;
         };
         let mut count = 1;
@@ -52,12 +34,12 @@ impl Fabric {
         ensures is { option_map spot result ≡ position_at (net self.now) channel i }
         ensures stands { MatchOption result (position_count (net self.now) channel ≤ i) (Stands (net self.now) channel) }
     {
-        let served = self.channel_at(channel)?;
+        let served = self.channel(channel)?;
         if i == 0 {
             return Some(Position::Sender);
         }
         let mut ahead = i - 1;
-        for from in 0..self.channel_total() {
+        for from in 0..self.channel_count() {
             if self.channels[from as usize].finish == served.start {
                 if ahead == 0 {
                     return Some(Position::Over(from as u8));
@@ -66,17 +48,5 @@ impl Fabric {
             }
         }
         None
-    }
-
-    // Whether some channel goes from the one switch to the other.
-    pub(super) fn has_channel(&self, from: u32, to: u32) -> bool
-        ensures { result ≡ joins (net self.now) from to }
-    {
-        for channel in self.channels.as_slice() {
-            if channel.start as u32 == from && channel.finish as u32 == to {
-                return true;
-            }
-        }
-        false
     }
 }

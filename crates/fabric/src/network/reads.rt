@@ -22,7 +22,7 @@ impl Fabric {
         ensures is { result ≡ count (net self.now) }
         ensures range { (1 ≤ result) × (result ≤ 128) }
     {
-        self.channel_total()
+        self.channels.len() as u32
     }
 
     // The channels in the order of their numbers.
@@ -38,7 +38,7 @@ impl Fabric {
         ensures is { option_map plain result ≡ slice_get (net self.now).channels channel }
         ensures joins { MatchOption result (count (net self.now) ≤ channel) (Joined (net self.now) channel) }
     {
-        self.channel_at(channel)
+        self.channels.get(channel as usize).copied()
     }
 
     // How many positions a channel has; 0 for a channel that does not exist.

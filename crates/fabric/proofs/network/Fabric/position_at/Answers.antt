@@ -36,7 +36,7 @@ returns-then-i-eq0 c =
     record { is = sym (at_zero c.args.self.now c.args.channel c.args.i h c.if-i-eq0.true); stands = there }
 
 pub index-requires : goal.index-requires
-index-requires c = omega (arith, c.channel_total-from-end.ensures.is, count_over c.args.self.now.switches (items c.args.self.now))
+index-requires c = omega (arith, c.channel_count-from-end.ensures.is, count_over c.args.self.now.switches (items c.args.self.now))
 
 pub returns-then-ahead-eq0 : goal.returns-then-ahead-eq0
 returns-then-ahead-eq0 c =
@@ -44,19 +44,19 @@ returns-then-ahead-eq0 c =
     let size = count_over f.switches (items f) in
     let j = c.in_ok-served.ensures.joins in
     let h : c.args.channel < length (items f) = omega (arith, j.there) in
-    let l : c.loop-from.from < length (items f) = omega (arith, c.channel_total-from-end.ensures.is) in
+    let l : c.loop-from.from < length (items f) = omega (arith, c.channel_count-from-end.ensures.is) in
     let e : c.index.result.now ≡ get_or (items f) c.loop-from.from blank = get_or_read (items f) _ _ l c.index.ensures blank in
     let q : (get_or (items f) c.loop-from.from blank).finish ≡ c.in_ok-served.served.start = ap (λ (x : Channel). x.finish) (sym e) ∙ c.if-index-served.true in
     record {
       is = sym (at_more f c.args.channel c.args.i _ h c.if-i-eq0.false j.leaves ∙ (c.loop-from.invariant ∙ at_here _ _ _ (items f) l q c.if-ahead-eq0.true));
-      stands = (j.there, omega (arith, c.channel_total-from-end.ensures.is), finish_over f.switches c.loop-from.from (items f) l ∙ (q ∙ j.leaves));
+      stands = (j.there, omega (arith, c.channel_count-from-end.ensures.is), finish_over f.switches c.loop-from.from (items f) l ∙ (q ∙ j.leaves));
     }
 
 pub loop-from-preserved : goal.loop-from-preserved
 loop-from-preserved c =
     let f : Fabric = c.args.self.now in
     let size = count_over f.switches (items f) in
-    let l : c.loop-from.from < length (items f) = omega (arith, c.channel_total-from-end.ensures.is) in
+    let l : c.loop-from.from < length (items f) = omega (arith, c.channel_count-from-end.ensures.is) in
     let e : c.index.result.now ≡ get_or (items f) c.loop-from.from blank = get_or_read (items f) _ _ l c.index.ensures blank in
     let d : c.index.result.now.finish ≡ (get_or (items f) c.loop-from.from blank).finish = ap (λ (x : Channel). x.finish) e in
     elim c.if-index-served.branch [
@@ -74,7 +74,7 @@ returns c =
     let size = count_over f.switches (items f) in
     let j = c.in_ok-served.ensures.joins in
     let h : c.args.channel < length (items f) = omega (arith, j.there) in
-    let l : length (items f) ≤ c.loop-from.from = omega (arith, c.channel_total-from-end.ensures.is) in
+    let l : length (items f) ≤ c.loop-from.from = omega (arith, c.channel_count-from-end.ensures.is) in
     let none : position_at (net f) c.args.channel c.args.i ≡ None =
     at_more f c.args.channel c.args.i _ h c.if-i-eq0.false j.leaves
     ∙ (c.loop-from.invariant ∙ ap (λ (ps : List Position). slice_get ps c.loop-from.ahead) (feeders_end _ _ (items f) l)) in
