@@ -1,9 +1,10 @@
 ghost use Rattle.std.specs.Prelude.{◌≡◌, ◌+◌, ◌-◌, ◌*◌, ◌/◌, ◌%◌, ◌<◌, ◌≢◌};
-ghost use Rattle.model.specs.Net.{is_pair};
 ghost use Rattle.model.specs.Rules.{grid_hop, grid_rule};
 ghost use Rattle.fabric.specs.Grids.{IsGrid};
+ghost use Rattle.fabric.specs.Pairs.{Finds};
 
 use crate::rule::RouteRule;
+use fabric::Pair;
 
 mod makes;
 
@@ -22,12 +23,15 @@ impl Grid {
         self.width * self.height
     }
 
-    // Whether these are two different switches.
-    fn has_pair(&self, source: u8, destination: u8) -> bool
-        ensures { result ≡ is_pair (self.now.width * self.now.height) source destination }
+    // These two switches as a pair.
+    fn pair(&self, source: u8, destination: u8) -> Option<Pair>
+        ensures { Finds (self.now.width * self.now.height) source destination result }
     {
-        let switches = self.switch_count();
-        source < switches && destination < switches && source != destination
+        Pair::of(
+            self.switch_count(),
+            u32::from(source),
+            u32::from(destination),
+        )
     }
 
     // The link from (x, y) to (x + 1, y).
@@ -77,18 +81,14 @@ impl RouteRule for Grid {
     ghost maps = { λ g. grid_rule g.width g.height };
 
     fn channel(&self, switch: u8, destination: u8) -> Option<u8> {
-        if self.has_pair(switch, destination) {
-            Some(self.toward(switch, destination))
-        } else {
-            None
-        }
+        let pair = self.pair(switch, destination)?;
+        Some(self.toward(pair.source, pair.destination))
     }
 
     fn lane(&self, source: u8, destination: u8) -> u8 {
-        if self.has_pair(source, destination) {
-            0
-        } else {
-            255
+        match self.pair(source, destination) {
+            Some(_) => 0,
+            None => 255,
         }
     }
 }

@@ -3,6 +3,7 @@ ghost use Rattle.model.specs.Net.{is_pair};
 ghost use Rattle.model.specs.Rules.{table_rule};
 
 use crate::rule::RouteRule;
+use fabric::Pair;
 
 mod makes;
 
@@ -13,6 +14,7 @@ const NONE: u8 = 255;
 #[derive(Drop)]
 pub struct Table {
     switches: u8,
+    // Two lists, as callers and the plan file have them: each is copied whole.
     channels: Vec<u8>,
     lanes: Vec<u8>,
     ghost full: { (vec_len channels ≡ switches * switches) × (vec_len lanes ≡ switches * switches) },
@@ -22,7 +24,7 @@ pub struct Table {
 pub fn cell(bytes: &[u8], switches: u8, row: u8, column: u8) -> u8
     ensures { result ≡ (if is_pair switches row column then slice_index_or bytes.now (row * switches + column) 255 else 255) }
 {
-    if row >= switches || column >= switches || row == column {
+    if Pair::of(switches, u32::from(row), u32::from(column)).is_none() {
         return NONE;
     }
     let at = row as usize * switches as usize + column as usize;

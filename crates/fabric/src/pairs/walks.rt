@@ -13,14 +13,7 @@ impl Fabric {
     pub fn pair(&self, source: u32, destination: u32) -> Option<Pair>
         ensures { Finds (net self.now).switches source destination result }
     {
-        let switches = self.switch_count();
-        if source >= switches || destination >= switches || source == destination {
-            return None;
-        }
-        Some(Pair {
-            source: source as u8,
-            destination: destination as u8,
-        })
+        Pair::of(self.switch_count() as u8, source, destination)
     }
 
     // All pairs, by source, then destination.
