@@ -1,5 +1,5 @@
 -- The positions of a channel, by the channels that end at the switch that it leaves.
-use Rattle.std.proofs.Common.{◌≡◌, ℕ, zero, suc, ◌+◌, ◌-◌, ◌<◌, ◌≤◌, Bool, true, false, cond, ltb, eqb, List, [], ◌∷◌, map, filter, count_by, length, Some, None, Option, ◌==◌, ◌≢◌, nat_lt, get_or, vec_items, refl}
+use Rattle.std.proofs.Common.{◌≡◌, ℕ, zero, suc, ◌+◌, ◌-◌, ◌<◌, ◌≤◌, Bool, true, false, cond, ltb, List, [], ◌∷◌, map, filter, count_by, length, Some, None, Option, ◌==◌, ◌≢◌, nat_lt, get_or, vec_items, refl}
 use Rattle.std.proofs.Common.{sym, ap, subst, ◌∙◌, arith, add-one}
 use Rattle.std.proofs.lemmas.List.{get_or-map, get_or_default, length-map}
 use Rattle.std.proofs.lemmas.Option.{slice_get-map}
@@ -141,12 +141,11 @@ feeder_ends f u k =
     let xs : List Channel = vec_items f.channels in
     let test = λ (p : ℕ × Channel). p.1.finish == u in
     first_at (λ (x : ℕ). (x < count (net f)) × (finish_of (net f) x ≡ u)) (filter test (enumerate_from 0 xs)) k (λ j d l.
-        let n = All-filter test (Numbered xs) (enumerate_from 0 xs) (numbered xs) j d l in
-        let e = filter_passes test (enumerate_from 0 xs) j d l in
-        (
-          omega (arith, n.0, count_over f.switches xs),
-          finish_over f.switches _ xs n.0 ∙ (ap (λ (x : Channel). x.finish) (sym n.1) ∙ eqb-true _ _ e),
-        ))
+    let n = All-filter test (Numbered xs) (enumerate_from 0 xs) (numbered xs) j d l in
+    let e = filter_passes test (enumerate_from 0 xs) j d l in (
+      omega (arith, n.0, count_over f.switches xs),
+      finish_over f.switches _ xs n.0 ∙ (ap (λ (x : Channel). x.finish) (sym n.1) ∙ eqb-true _ _ e),
+    ))
 
 pub ruleset places = (at_none, at_first, at_later)
 

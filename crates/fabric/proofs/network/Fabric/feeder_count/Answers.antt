@@ -1,4 +1,4 @@
-use Rattle.std.proofs.Common.{◌≡◌, ◌==◌, List, vec_items, count_by, rules, tests, ◌∙◌}
+use Rattle.std.proofs.Common.{◌≡◌, ◌==◌, vec_items, count_by, rules, ◌∙◌}
 use Rattle.fabric.specs.declared.channel.Channel.{Channel}
 use Rattle.fabric.proofs.Feeders.{length_feeders}
 use Rattle.fabric.proofs.network.Fabric.feeder_count.Goals as goal
