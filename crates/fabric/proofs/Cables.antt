@@ -1,6 +1,8 @@
 -- Link ends, one link after the other: their refusals, their channels, and where those lie.
 use Rattle.std.proofs.Common.{◌≡◌, ℕ, zero, suc, ◌+◌, ◌*◌, ◌/◌, ◌%◌, ◌<◌, ◌≤◌, Bool, true, false, cond, ◌||◌, eqb, ltb, leb, ◌⊎◌, List, [], ◌∷◌, ◌++◌, map, length, get_or, drop, Some, None, Option, sym, refl, ap, ◌∙◌, inl, inr, arith, length-drop, MatchOption}
-use Rattle.std.proofs.lemmas.List.{drop_more, append_assoc, append-nil, map-append}
+use Rattle.std.specs.Simd.{first_chunks}
+use Rattle.std.proofs.lemmas.Bool.Decides.{nat_tests}
+use Rattle.std.proofs.lemmas.List.{drop_more, drop_all, append_assoc, append-nil, map-append}
 use Rattle.std.proofs.lemmas.Bool.{or_parts, or_right, leb-false, le-leb, lt-leb, eqb-false, eq-eqb, ne_eqb, cond-true}
 use Rattle.model.specs.Net.{Channel, channels_of}
 use Rattle.model.specs.Refusals.{Refusal}
@@ -10,6 +12,40 @@ use Rattle.fabric.specs.Channels.{plain, Inside, starts, finishes, Linked}
 use Rattle.fabric.specs.Faults.{fabric_refusal}
 use Rattle.fabric.specs.declared.channel.Channel.{Channel as CodeChannel}
 use Rattle.fabric.specs.declared.fault.FabricFault.{FabricFault}
+
+-- the ends of each link
+abbrev pub links_of : List ℕ → List (List ℕ)
+links_of ends = first_chunks 2 (length ends / 2) ends
+
+-- the refusal of links, the first of which is number i
+abbrev pub refusal_from : ℕ → ℕ → List (List ℕ) → Option Refusal
+refusal_from n i [] = None
+refusal_from n i (link ∷ links) =
+    cond (leb n (get_or link 0 0) || leb n (get_or link 1 0)) (Some (missing_end i))
+    (cond (eqb (get_or link 0 0) (get_or link 1 0)) (Some (equal_ends i)) (refusal_from n (i + 1) links))
+
+one_link_more : (a b : ℕ) (ends : List ℕ) → links_of (a ∷ (b ∷ ends)) ≡ (a ∷ (b ∷ [])) ∷ links_of ends
+one_link_more a b ends =
+    let half : length (a ∷ (b ∷ ends)) / 2 ≡ suc (length ends / 2) = omega arith in
+    ap (λ (k : ℕ). first_chunks 2 k (a ∷ (b ∷ ends))) half
+
+pub refusal_is : (n i : ℕ) (ends : List ℕ) → link_refusal n i ends ≡ refusal_from n i (links_of ends)
+refusal_is n i [] = refl
+refusal_is n i (a ∷ []) = refl
+refusal_is n i (a ∷ (b ∷ ends)) =
+    ap (λ (o : Option Refusal). cond (leb n a || leb n b) (Some (missing_end i)) (cond (eqb a b) (Some (equal_ends i)) o)) (refusal_is n (i + 1) ends)
+    ∙ sym (ap (refusal_from n i) (one_link_more a b ends))
+
+pub refusal_more : (n i : ℕ) (links : List (List ℕ)) → i < length links
+    → refusal_from n i (drop i links)
+    ≡ cond (leb n (get_or (get_or links i []) 0 0) || leb n (get_or (get_or links i []) 1 0)) (Some (missing_end i))
+    (cond (eqb (get_or (get_or links i []) 0 0) (get_or (get_or links i []) 1 0)) (Some (equal_ends i)) (refusal_from n (i + 1) (drop (i + 1) links)))
+refusal_more n i links h = ap (refusal_from n i) (drop_more links i [] h)
+
+pub refusal_end : (n i : ℕ) (links : List (List ℕ)) → length links ≤ i → refusal_from n i (drop i links) ≡ None
+refusal_end n i links h = ap (refusal_from n i) (drop_all i links h)
+
+pub ruleset link_tests = (refusal_is, refusal_more, refusal_end, nat_tests)
 
 -- the ends from link i on
 ends_more : (ends : List ℕ) (i : ℕ) → 2 * i + 1 < length ends → drop (2 * i) ends ≡ get_or ends (2 * i) 0 ∷ (get_or ends (2 * i + 1) 0 ∷ drop (2 * (i + 1)) ends)
@@ -28,32 +64,6 @@ short_links n i (a ∷ (b ∷ rest)) h = absurd (omega arith)
 
 no_links : (n i : ℕ) (ends : List ℕ) → length ends / 2 ≤ i → (link_refusal n i (drop (2 * i) ends) ≡ None) × (channels_of (drop (2 * i) ends) ≡ [])
 no_links n i ends h = short_links n i (drop (2 * i) ends) (omega (arith, length-drop (2 * i) ends))
-
--- the refusal of the links from i on, by link i
-link_refusal_lem : (n i : ℕ) (ends : List ℕ) → 2 * i + 1 < length ends
-    → link_refusal n i (drop (2 * i) ends)
-    ≡ cond (leb n (get_or ends (2 * i) 0) || leb n (get_or ends (2 * i + 1) 0)) (Some (missing_end i))
-    (cond (eqb (get_or ends (2 * i) 0) (get_or ends (2 * i + 1) 0)) (Some (equal_ends i)) (link_refusal n (i + 1) (drop (2 * (i + 1)) ends)))
-link_refusal_lem n i ends h = ap (λ (z : List ℕ). link_refusal n i z) (ends_more ends i h)
-
--- link i is at fault, or not
-pub link_missing : (n i : ℕ) (ends : List ℕ) → 2 * i + 1 < length ends → (n ≤ get_or ends (2 * i) 0) ⊎ (n ≤ get_or ends (2 * i + 1) 0)
-    → link_refusal n i (drop (2 * i) ends) ≡ Some (missing_end i)
-link_missing n i ends h (inl l) = link_refusal_lem n i ends h ∙ simp (le-leb n (get_or ends (2 * i) 0) l)
-link_missing n i ends h (inr l) = link_refusal_lem n i ends h ∙ cond-true _ _ _ (or_right (leb n (get_or ends (2 * i) 0)) (leb n (get_or ends (2 * i + 1) 0)) (le-leb n (get_or ends (2 * i + 1) 0) l))
-
-pub link_equal : (n i : ℕ) (ends : List ℕ) → 2 * i + 1 < length ends → get_or ends (2 * i) 0 < n → get_or ends (2 * i + 1) 0 < n
-    → get_or ends (2 * i) 0 ≡ get_or ends (2 * i + 1) 0 → link_refusal n i (drop (2 * i) ends) ≡ Some (equal_ends i)
-link_equal n i ends h a b e =
-    link_refusal_lem n i ends h ∙ simp (lt-leb n (get_or ends (2 * i) 0) a, lt-leb n (get_or ends (2 * i + 1) 0) b, eq-eqb (get_or ends (2 * i) 0) (get_or ends (2 * i + 1) 0) e)
-
-pub link_fits : (n i : ℕ) (ends : List ℕ) → 2 * i + 1 < length ends → get_or ends (2 * i) 0 < n → get_or ends (2 * i + 1) 0 < n
-    → (get_or ends (2 * i) 0 ≡ get_or ends (2 * i + 1) 0 → ⊥) → link_refusal n i (drop (2 * i) ends) ≡ link_refusal n (i + 1) (drop (2 * (i + 1)) ends)
-link_fits n i ends h a b e =
-    link_refusal_lem n i ends h ∙ simp (lt-leb n (get_or ends (2 * i) 0) a, lt-leb n (get_or ends (2 * i + 1) 0) b, ne_eqb (get_or ends (2 * i) 0) (get_or ends (2 * i + 1) 0) e)
-
-pub link_refusal_end : (n i : ℕ) (ends : List ℕ) → length ends / 2 ≤ i → link_refusal n i (drop (2 * i) ends) ≡ None
-link_refusal_end n i ends h = (no_links n i ends h).0
 
 -- the two channels of link i
 abbrev pub there : List ℕ → ℕ → CodeChannel

@@ -9,13 +9,13 @@ use crate::network::Fabric;
 use std::alloc::{AllocError, Global};
 
 // Refusals 3 and 4, link by link.
+#[tactic(auto, using(crate::proofs::Cables::link_tests))]
 fn judge_links(switches: u32, ends: &[u8]) -> Result<(), FabricFault>
     requires { length ends.now ≤ 128 }
     ensures { JudgesLinks switches ends.now result }
 {
-    for link in 0..ends.len() / 2 {
-        let a = ends[2 * link];
-        let b = ends[2 * link + 1];
+    let (links, _) = ends.as_chunks::<2>();
+    for (link, &[a, b]) in links.iter().enumerate() {
         if a as u32 >= switches || b as u32 >= switches {
             return Err(FabricFault::MissingEnd(link as u8));
         }
