@@ -1,5 +1,6 @@
 -- Link ends, one link after the other: their refusals, their channels, and where those lie.
 use Rattle.std.proofs.Common.{◌≡◌, ℕ, zero, suc, ◌+◌, ◌*◌, ◌/◌, ◌%◌, ◌<◌, ◌≤◌, Bool, true, false, cond, ◌||◌, eqb, ltb, leb, ◌⊎◌, List, [], ◌∷◌, ◌++◌, map, length, get_or, drop, Some, None, Option, sym, refl, ap, ◌∙◌, inl, inr, arith, length-drop, MatchOption}
+use Rattle.std.specs.List.{flat_map}
 use Rattle.std.specs.Simd.{first_chunks}
 use Rattle.std.proofs.lemmas.Bool.Decides.{nat_tests}
 use Rattle.std.proofs.lemmas.List.{drop_more, drop_all, append_assoc, append-nil, map-append}
@@ -47,46 +48,15 @@ refusal_end n i links h = ap (refusal_from n i) (drop_all i links h)
 
 pub ruleset link_tests = (refusal_is, refusal_more, refusal_end, nat_tests)
 
--- the ends from link i on
-ends_more : (ends : List ℕ) (i : ℕ) → 2 * i + 1 < length ends → drop (2 * i) ends ≡ get_or ends (2 * i) 0 ∷ (get_or ends (2 * i + 1) 0 ∷ drop (2 * (i + 1)) ends)
-ends_more ends i h =
-    let first : 2 * i < length ends = omega arith in
-    let next : 2 * i + 1 + 1 ≡ 2 * (i + 1) = omega arith in
-    drop_more ends (2 * i) 0 first
-    ∙ ap (λ (z : List ℕ). get_or ends (2 * i) 0 ∷ z)
-    (drop_more ends (2 * i + 1) 0 h ∙ ap (λ (k : ℕ). get_or ends (2 * i + 1) 0 ∷ drop k ends) next)
+-- the two channels of a link
+abbrev pub both : List ℕ → List Channel
+both link = record { start = get_or link 0 0; finish = get_or link 1 0 } ∷ (record { start = get_or link 1 0; finish = get_or link 0 0 } ∷ [])
 
--- of at most one end there is no link
-short_links : (n i : ℕ) (rest : List ℕ) → length rest ≤ 1 → (link_refusal n i rest ≡ None) × (channels_of rest ≡ [])
-short_links n i [] h = (refl, refl)
-short_links n i (a ∷ []) h = (refl, refl)
-short_links n i (a ∷ (b ∷ rest)) h = absurd (omega arith)
-
-no_links : (n i : ℕ) (ends : List ℕ) → length ends / 2 ≤ i → (link_refusal n i (drop (2 * i) ends) ≡ None) × (channels_of (drop (2 * i) ends) ≡ [])
-no_links n i ends h = short_links n i (drop (2 * i) ends) (omega (arith, length-drop (2 * i) ends))
-
--- the two channels of link i
-abbrev pub there : List ℕ → ℕ → CodeChannel
-there ends i = record { start = get_or ends (2 * i) 0; finish = get_or ends (2 * i + 1) 0 }
-
-abbrev pub back : List ℕ → ℕ → CodeChannel
-back ends i = record { start = get_or ends (2 * i + 1) 0; finish = get_or ends (2 * i) 0 }
-
-pub channels_more : (ends : List ℕ) (i : ℕ) (cs cs' : List CodeChannel) → 2 * i + 1 < length ends → cs' ≡ (cs ++ there ends i ∷ []) ++ back ends i ∷ []
-    → channels_of ends ≡ map plain cs ++ channels_of (drop (2 * i) ends) → channels_of ends ≡ map plain cs' ++ channels_of (drop (2 * (i + 1)) ends)
-channels_more ends i cs cs' h e q =
-    let rest : List Channel = channels_of (drop (2 * (i + 1)) ends) in
-    let two : List Channel = plain (there ends i) ∷ (plain (back ends i) ∷ []) in
-    let m : channels_of (drop (2 * i) ends) ≡ two ++ rest = ap (λ (z : List ℕ). channels_of z) (ends_more ends i h) in
-    let p : map plain cs' ≡ map plain cs ++ two =
-    ap (λ (z : List CodeChannel). map plain z) (e ∙ append_assoc cs (there ends i ∷ []) (back ends i ∷ []))
-    ∙ map-append plain cs (there ends i ∷ (back ends i ∷ [])) in
-    q ∙ ap (λ (z : List Channel). map plain cs ++ z) m ∙ sym (ap (λ (z : List Channel). z ++ rest) p ∙ append_assoc (map plain cs) two rest)
-
-pub channels_end : (ends : List ℕ) (i : ℕ) (cs : List CodeChannel) → length ends / 2 ≤ i
-    → channels_of ends ≡ map plain cs ++ channels_of (drop (2 * i) ends) → map plain cs ≡ channels_of ends
-channels_end ends i cs h q =
-    sym (q ∙ ap (λ (z : List Channel). map plain cs ++ z) (no_links 0 i ends h).1 ∙ append-nil (map plain cs))
+pub channels_are : (ends : List ℕ) → channels_of ends ≡ flat_map both (links_of ends)
+channels_are [] = refl
+channels_are (a ∷ []) = refl
+channels_are (a ∷ (b ∷ ends)) =
+    ap (λ (z : List Channel). both (a ∷ (b ∷ [])) ++ z) (channels_are ends) ∙ sym (ap (flat_map both) (one_link_more a b ends))
 
 -- where nothing is refused
 not_refused : (b : Bool) (r : Refusal) (o : Option Refusal) → cond b (Some r) o ≡ None → (b ≡ false) × (o ≡ None)

@@ -7,7 +7,7 @@ pub fn grid_size(width: u32, height: u32) -> Result<u32, FabricFault>
     ensures { SizesGrid width height result }
 {
     let switches = width as u64 * height as u64;
-    if switches < 2 || switches > 32 {
+    if !(2..=32).contains(&switches) {
         return Err(FabricFault::GridSize);
     }
     Ok(switches as u32)
