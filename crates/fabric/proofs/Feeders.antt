@@ -25,7 +25,7 @@ blank = record { start = 0; finish = 0 }
 abbrev pub net_over : ℕ → List Channel → Net
 net_over n xs = record { switches = n; channels = map plain xs }
 
-count_over : (n : ℕ) (xs : List Channel) → count (net_over n xs) ≡ length xs
+pub count_over : (n : ℕ) (xs : List Channel) → count (net_over n xs) ≡ length xs
 count_over n xs = length-map xs plain
 
 finish_over : (n c : ℕ) (xs : List Channel) → c < length xs → finish_of (net_over n xs) c ≡ (get_or xs c blank).finish
@@ -96,6 +96,8 @@ count_positions f c h =
 pub count_none : (f : Fabric) (c : ℕ) → count (net f) ≤ c → position_count (net f) c ≡ 0
 count_none f c h = ap length (positions_none (net f) c h)
 
+pub ruleset counts = (count_positions, count_none)
+
 -- position i
 pub at_none : (f : Fabric) (c i : ℕ) → count (net f) ≤ c → position_at (net f) c i ≡ None
 at_none f c i h = ap (λ (ps : List Position). slice_get ps i) (positions_none (net f) c h)
@@ -147,7 +149,7 @@ feeder_ends f u k =
       finish_over f.switches _ xs n.0 ∙ (ap (λ (x : Channel). x.finish) (sym n.1) ∙ eqb-true _ _ e),
     ))
 
-pub ruleset places = (at_none, at_first, at_later)
+pub ruleset places = (at_none, at_first, at_later, counts)
 
 counted : (u i : ℕ) (xs : List Channel) → length (feeders_from u i xs) ≡ count_by (λ (x : Channel). x.finish == u) xs
 counted u i [] = refl
