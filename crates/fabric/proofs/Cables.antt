@@ -60,7 +60,7 @@ channels_are (a ∷ (b ∷ ends)) =
 
 -- where nothing is refused
 not_refused : (b : Bool) (r : Refusal) (o : Option Refusal) → cond b (Some r) o ≡ None → (b ≡ false) × (o ≡ None)
-not_refused true r o h = let z : ◌≡◌ {A = ℕ} 0 1 = cc in absurd (omega arith)
+not_refused true r o h = cc
 not_refused false r o h = (refl, h)
 
 pub cabled : (n : ℕ) (ends : List ℕ) → cabling_refusal n ends ≡ None → Cabled n ends
@@ -68,7 +68,7 @@ cabled n ends h = by (cabling_refusal n ends) h (cabling_exact_lem n ends)
   where
     by : (o : Option Refusal) → o ≡ None → MatchOption o (Cabled n ends) (λ r. Refused n ends r) → Cabled n ends
     by None e c = c
-    by (Some r) e c = let z : ◌≡◌ {A = ℕ} 0 1 = cc in absurd (omega arith)
+    by (Some r) e c = cc
 
 links_pass : (n : ℕ) (ends : List ℕ) → cabling_refusal n ends ≡ None → link_refusal n 0 ends ≡ None
 links_pass n ends h =
@@ -120,8 +120,8 @@ linked ends h =
 -- channels that start and end alike are the same
 same_channels : (cs ds : List Channel) → starts cs ≡ starts ds → finishes cs ≡ finishes ds → cs ≡ ds
 same_channels [] [] p q = refl
-same_channels [] (d ∷ ds) p q = let z : ◌≡◌ {A = ℕ} 0 1 = cc in absurd (omega arith)
-same_channels (c ∷ cs) [] p q = let z : ◌≡◌ {A = ℕ} 0 1 = cc in absurd (omega arith)
+same_channels [] (d ∷ ds) p q = cc
+same_channels (c ∷ cs) [] p q = cc
 same_channels (c ∷ cs) (d ∷ ds) p q =
     let a : c.start ≡ d.start = cc in
     let b : c.finish ≡ d.finish = cc in
