@@ -1,10 +1,10 @@
 -- Link ends, one link after the other: their refusals, their channels, and where those lie.
-use Rattle.std.proofs.Common.{◌≡◌, ℕ, zero, suc, ◌+◌, ◌*◌, ◌/◌, ◌%◌, ◌<◌, ◌≤◌, Bool, true, false, cond, ◌||◌, eqb, ltb, leb, ◌⊎◌, List, [], ◌∷◌, ◌++◌, map, length, get_or, drop, Some, None, Option, sym, refl, ap, ◌∙◌, inl, inr, arith, length-drop, MatchOption}
+use Rattle.std.proofs.Common.{◌≡◌, ℕ, zero, suc, ◌+◌, ◌/◌, ◌%◌, ◌<◌, ◌≤◌, Bool, true, false, cond, ◌||◌, eqb, ltb, leb, List, [], ◌∷◌, ◌++◌, map, length, get_or, drop, Some, None, Option, sym, refl, ap, subst, ◌∙◌, arith, MatchOption}
 use Rattle.std.specs.List.{flat_map}
 use Rattle.std.specs.Simd.{first_chunks}
 use Rattle.std.proofs.lemmas.Bool.Decides.{nat_tests}
-use Rattle.std.proofs.lemmas.List.{drop_more, drop_all, append_assoc, append-nil, map-append}
-use Rattle.std.proofs.lemmas.Bool.{or_parts, or_right, leb-false, le-leb, lt-leb, eqb-false, eq-eqb, ne_eqb, cond-true}
+use Rattle.std.proofs.lemmas.List.{drop_more, drop_all, length-map}
+use Rattle.std.proofs.lemmas.Bool.{or_parts, leb-false, eqb-false}
 use Rattle.model.specs.Net.{Channel, channels_of}
 use Rattle.model.specs.Refusals.{Refusal}
 use Rattle.model.specs.Cabling.{link_refusal, cabling_refusal, bad_switch_count, bad_end_list, missing_end, equal_ends, Cabled, Refused}
@@ -60,7 +60,7 @@ channels_are (a ∷ (b ∷ ends)) =
 
 -- where nothing is refused
 not_refused : (b : Bool) (r : Refusal) (o : Option Refusal) → cond b (Some r) o ≡ None → (b ≡ false) × (o ≡ None)
-not_refused true r o h = let z : ◌≡◌ {A = ℕ} 0 1 = cc in absurd (omega arith)
+not_refused true r o h = cc
 not_refused false r o h = (refl, h)
 
 pub cabled : (n : ℕ) (ends : List ℕ) → cabling_refusal n ends ≡ None → Cabled n ends
@@ -68,7 +68,7 @@ cabled n ends h = by (cabling_refusal n ends) h (cabling_exact_lem n ends)
   where
     by : (o : Option Refusal) → o ≡ None → MatchOption o (Cabled n ends) (λ r. Refused n ends r) → Cabled n ends
     by None e c = c
-    by (Some r) e c = let z : ◌≡◌ {A = ℕ} 0 1 = cc in absurd (omega arith)
+    by (Some r) e c = cc
 
 links_pass : (n : ℕ) (ends : List ℕ) → cabling_refusal n ends ≡ None → link_refusal n 0 ends ≡ None
 links_pass n ends h =
@@ -97,11 +97,11 @@ links_inside n i (a ∷ (b ∷ ends)) h = at (links_inside n (i + 1) ends inner.
     at rest (suc zero) l = (b_in, a_in, λ e. eqb-false a b inner.0 (sym e))
     at rest (suc (suc c)) l = rest c (omega arith)
 
-pub inside : (n : ℕ) (ends : List ℕ) → cabling_refusal n ends ≡ None → Inside n (channels_of ends)
+inside : (n : ℕ) (ends : List ℕ) → cabling_refusal n ends ≡ None → Inside n (channels_of ends)
 inside n ends h = links_inside n 0 ends (links_pass n ends h)
 
 -- two channels a link
-pub channel_count_lem : (ends : List ℕ) → length ends % 2 ≡ 0 → length (channels_of ends) ≡ length ends
+channel_count_lem : (ends : List ℕ) → length ends % 2 ≡ 0 → length (channels_of ends) ≡ length ends
 channel_count_lem [] h = refl
 channel_count_lem (a ∷ []) h = absurd (omega arith)
 channel_count_lem (a ∷ (b ∷ ends)) h = omega (arith, channel_count_lem ends (omega arith))
@@ -112,7 +112,7 @@ starts_of [] h = refl
 starts_of (a ∷ []) h = absurd (omega arith)
 starts_of (a ∷ (b ∷ ends)) h = ap (λ (z : List ℕ). a ∷ (b ∷ z)) (starts_of ends (omega arith))
 
-pub linked : (ends : List ℕ) → length ends % 2 ≡ 0 → Linked (channels_of ends)
+linked : (ends : List ℕ) → length ends % 2 ≡ 0 → Linked (channels_of ends)
 linked ends h =
     let e : channels_of (starts (channels_of ends)) ≡ channels_of ends = ap (λ (z : List ℕ). channels_of z) (starts_of ends h) in
     (ap (λ (z : List Channel). starts z) e, ap (λ (z : List Channel). finishes z) e)
@@ -120,8 +120,8 @@ linked ends h =
 -- channels that start and end alike are the same
 same_channels : (cs ds : List Channel) → starts cs ≡ starts ds → finishes cs ≡ finishes ds → cs ≡ ds
 same_channels [] [] p q = refl
-same_channels [] (d ∷ ds) p q = let z : ◌≡◌ {A = ℕ} 0 1 = cc in absurd (omega arith)
-same_channels (c ∷ cs) [] p q = let z : ◌≡◌ {A = ℕ} 0 1 = cc in absurd (omega arith)
+same_channels [] (d ∷ ds) p q = cc
+same_channels (c ∷ cs) [] p q = cc
 same_channels (c ∷ cs) (d ∷ ds) p q =
     let a : c.start ≡ d.start = cc in
     let b : c.finish ≡ d.finish = cc in
@@ -141,3 +141,19 @@ found e o h = by (fabric_refusal e) h
     by : (p : Option Refusal) → MatchOption p ⊥ (λ r. o ≡ Some r) → p ≡ o
     by None h = absurd h
     by (Some r) h = sym h
+
+-- what a fabric keeps, of channels that are those of ends that nothing refuses
+pub makes : (n : ℕ) (ends : List ℕ) (cs : List CodeChannel) → cabling_refusal n ends ≡ None → map plain cs ≡ channels_of ends
+    → (2 ≤ n) × (n ≤ 32) × (1 ≤ length cs) × (length cs ≤ 128) × Inside n (map plain cs) × Linked (map plain cs)
+makes n ends cs pass same =
+    let made : Cabled n ends = cabled n ends pass in
+    let size = channel_count_lem ends made.counted.paired in
+    let long = length-map cs plain in
+    let all = ap length same in (
+      made.counted.enough,
+      made.counted.few,
+      omega (arith, made.counted.some),
+      omega (arith, made.counted.short),
+      subst (λ (z : List Channel). Inside n z) (sym same) (inside n ends pass),
+      subst (λ (z : List Channel). Linked z) (sym same) (linked ends made.counted.paired),
+    )

@@ -25,7 +25,7 @@ blank = record { start = 0; finish = 0 }
 abbrev pub net_over : ℕ → List Channel → Net
 net_over n xs = record { switches = n; channels = map plain xs }
 
-count_over : (n : ℕ) (xs : List Channel) → count (net_over n xs) ≡ length xs
+pub count_over : (n : ℕ) (xs : List Channel) → count (net_over n xs) ≡ length xs
 count_over n xs = length-map xs plain
 
 finish_over : (n c : ℕ) (xs : List Channel) → c < length xs → finish_of (net_over n xs) c ≡ (get_or xs c blank).finish
@@ -39,18 +39,29 @@ feeders_are : (u : ℕ) (xs : List Channel) → feeders u xs ≡ feeders_from u 
 unfolding feeders
 feeders_are u xs = refl
 
-one_more : (b : Bool) (i : ℕ) (x : Channel) (ps : List (ℕ × Channel))
-    → map (λ (p : ℕ × Channel). p.0) (cond b ((i, x) ∷ ps) ps) ≡ cond b (i ∷ map (λ (p : ℕ × Channel). p.0) ps) (map (λ (p : ℕ × Channel). p.0) ps)
-one_more true i x ps = refl
-one_more false i x ps = refl
+map_one : {X Y : Type 0} (f : X → Y) (b : Bool) (x : X) (xs : List X) → map f (cond b (x ∷ xs) xs) ≡ cond b (f x ∷ map f xs) (map f xs)
+map_one f true x xs = refl
+map_one f false x xs = refl
 
 feeders_more : (u i : ℕ) (x : Channel) (xs : List Channel) → feeders_from u i (x ∷ xs) ≡ cond (x.finish == u) (i ∷ feeders_from u (i + 1) xs) (feeders_from u (i + 1) xs)
-feeders_more u i x xs = one_more (x.finish == u) i x (filter (λ (p : ℕ × Channel). p.1.finish == u) (enumerate_from (i + 1) xs))
+feeders_more u i x xs = map_one (λ (p : ℕ × Channel). p.0) (x.finish == u) (i, x) (filter (λ (p : ℕ × Channel). p.1.finish == u) (enumerate_from (i + 1) xs))
 
-over_one : (b : Bool) (i : ℕ) (ks : List ℕ) → cond b (over i ∷ map over ks) (map over ks) ≡ map over (cond b (i ∷ ks) ks)
-over_one true i ks = refl
-over_one false i ks = refl
+-- how many there are
+counted : (u i : ℕ) (xs : List Channel) → length (feeders_from u i xs) ≡ count_by (λ (x : Channel). x.finish == u) xs
+counted u i [] = refl
+counted u i (x ∷ xs) =
+    let e : count_by (λ (y : Channel). y.finish == u) (x ∷ xs) ≡ cond (x.finish == u) 1 0 + count_by (λ (y : Channel). y.finish == u) xs = sum_by-cons (λ (y : Channel). cond (y.finish == u) 1 0) x xs in
+    ap length (feeders_more u i x xs) ∙ by (x.finish == u) (counted u (i + 1) xs) ∙ sym e
+  where
+    by : (b : Bool) → length (feeders_from u (i + 1) xs) ≡ count_by (λ (x : Channel). x.finish == u) xs
+        → length (cond b (i ∷ feeders_from u (i + 1) xs) (feeders_from u (i + 1) xs)) ≡ cond b 1 0 + count_by (λ (x : Channel). x.finish == u) xs
+    by true e = omega arith
+    by false e = omega arith
 
+pub length_feeders : (u : ℕ) (xs : List Channel) → count_by (λ (x : Channel). x.finish == u) xs ≡ length (feeders u xs)
+length_feeders u xs = sym (ap length (feeders_are u xs) ∙ counted u 0 xs)
+
+-- the positions of a channel by its feeders
 kept : (net : Net) (c i : ℕ) (xs : List Channel) → nat_lt c (count net) ≡ true
     → ((j : ℕ) → j < length xs → finish_of net (i + j) ≡ (get_or xs j blank).finish)
     → keep (λ x. feeds net x c) (map over (up_from (length xs) i)) ≡ map over (feeders_from (start_of net c) i xs)
@@ -62,9 +73,8 @@ kept net c i (x ∷ xs) h at =
     kept net c (i + 1) xs h (λ j l. ap (finish_of net) (omega arith) ∙ at (suc j) (omega arith)) in
     let next : keep (λ y. feeds net y c) (map over (up_from (length xs) (suc i))) ≡ map over (feeders_from u (i + 1) xs) =
     ap (λ (k : ℕ). keep (λ y. feeds net y c) (map over (up_from (length xs) k))) (sym (add-one i)) ∙ more in
-    simp (h, here, next) (over_one (x.finish == u) i (feeders_from u (i + 1) xs)) ∙ sym (ap (map over) (feeders_more u i x xs))
+    simp (h, here, next) (sym (map_one over (x.finish == u) i (feeders_from u (i + 1) xs))) ∙ sym (ap (map over) (feeders_more u i x xs))
 
--- the positions of a channel that exists
 positions_are : (n c : ℕ) (xs : List Channel) → c < length xs
     → positions (net_over n xs) c ≡ sender ∷ map over (feeders (start_of (net_over n xs) c) xs)
 positions_are n c xs h =
@@ -87,7 +97,7 @@ positions_none net c h = let l : ltb c (count net) ≡ false = le-ltb c (count n
     dropped [] l = refl
     dropped (x ∷ xs) l = simp (fed x l, dropped xs l)
 
--- how many there are
+-- how many positions there are
 pub count_positions : (f : Fabric) (c : ℕ) → c < count (net f) → position_count (net f) c ≡ 1 + length (feeders (start_of (net f) c) (vec_items f.channels))
 count_positions f c h =
     let xs : List Channel = vec_items f.channels in
@@ -95,6 +105,8 @@ count_positions f c h =
 
 pub count_none : (f : Fabric) (c : ℕ) → count (net f) ≤ c → position_count (net f) c ≡ 0
 count_none f c h = ap length (positions_none (net f) c h)
+
+pub ruleset counts = (count_positions, count_none)
 
 -- position i
 pub at_none : (f : Fabric) (c i : ℕ) → count (net f) ≤ c → position_at (net f) c i ≡ None
@@ -112,6 +124,8 @@ at_later f c i h z =
     ap (λ (k : ℕ). position_at (net f) c k) s
     ∙ ap (λ (ps : List Position). slice_get ps (suc (i - 1))) (positions_are f.switches c xs (omega (arith, count_over f.switches xs)))
     ∙ slice_get-map over (feeders (start_of (net f) c) xs) (i - 1)
+
+pub ruleset places = (at_none, at_first, at_later, counts)
 
 -- a feeder is a channel that ends at the switch
 abbrev Numbered : List Channel → ℕ × Channel → Type 0
@@ -146,19 +160,3 @@ feeder_ends f u k =
       omega (arith, n.0, count_over f.switches xs),
       finish_over f.switches _ xs n.0 ∙ (ap (λ (x : Channel). x.finish) (sym n.1) ∙ eqb-true _ _ e),
     ))
-
-pub ruleset places = (at_none, at_first, at_later)
-
-counted : (u i : ℕ) (xs : List Channel) → length (feeders_from u i xs) ≡ count_by (λ (x : Channel). x.finish == u) xs
-counted u i [] = refl
-counted u i (x ∷ xs) =
-    let e : count_by (λ (y : Channel). y.finish == u) (x ∷ xs) ≡ cond (x.finish == u) 1 0 + count_by (λ (y : Channel). y.finish == u) xs = sum_by-cons (λ (y : Channel). cond (y.finish == u) 1 0) x xs in
-    ap length (feeders_more u i x xs) ∙ by (x.finish == u) (counted u (i + 1) xs) ∙ sym e
-  where
-    by : (b : Bool) → length (feeders_from u (i + 1) xs) ≡ count_by (λ (x : Channel). x.finish == u) xs
-        → length (cond b (i ∷ feeders_from u (i + 1) xs) (feeders_from u (i + 1) xs)) ≡ cond b 1 0 + count_by (λ (x : Channel). x.finish == u) xs
-    by true e = omega arith
-    by false e = omega arith
-
-pub length_feeders : (u : ℕ) (xs : List Channel) → count_by (λ (x : Channel). x.finish == u) xs ≡ length (feeders u xs)
-length_feeders u xs = sym (ap length (feeders_are u xs) ∙ counted u 0 xs)

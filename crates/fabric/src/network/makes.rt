@@ -62,6 +62,7 @@ fn channels_of(heap: Global, ends: &[u8]) -> Result<Vec<Channel>, AllocError>
 impl Fabric {
     // Makes a fabric of a switch count and two bytes a link, its ends. Channel 2i of link i goes from its first end to its
     // second, channel 2i + 1 back.
+    #[tactic(auto, using(crate::proofs::Cables::found, crate::proofs::Cables::makes))]
     pub fn new(heap: Global, switches: u32, ends: &[u8]) -> Result<Fabric, FabricFault>
         ensures { Makes switches ends.now result }
     {

@@ -36,7 +36,7 @@ impl Fabric {
     }
 
     // How many positions a channel has; 0 for a channel that does not exist.
-    #[tactic(auto, using(crate::proofs::Feeders::count_positions, crate::proofs::Feeders::count_none))]
+    #[tactic(auto, using(crate::proofs::Feeders::counts))]
     pub fn position_count(&self, channel: u32) -> u32
         ensures is { result ≡ position_count (net self.now) channel }
         ensures range { result ≤ 129 }
@@ -47,7 +47,7 @@ impl Fabric {
 
     // Position i of a channel, counted from 0: the sender slot of the switch that it leaves, then the channels that end there,
     // ascending.
-    #[tactic(auto, using(crate::proofs::Feeders::places, crate::proofs::Feeders::count_positions, crate::proofs::Feeders::count_none))]
+    #[tactic(auto, using(crate::proofs::Feeders::places))]
     pub fn position(&self, channel: u32, i: u32) -> Option<Position>
         ensures is { option_map spot result ≡ position_at (net self.now) channel i }
         ensures stands { MatchOption result (position_count (net self.now) channel ≤ i) (Stands (net self.now) channel) }

@@ -6,6 +6,7 @@ ghost use Rattle.fabric.specs.Of.{net};
 ghost use Rattle.fabric.specs.Switches;
 ghost use Rattle.fabric.specs.Switches.{goes};
 
+use crate::channel::Channel;
 use crate::network::Fabric;
 use graph::Graph;
 
@@ -15,8 +16,8 @@ impl Fabric {
     fn has_channel(&self, from: u32, to: u32) -> bool
         ensures { result ≡ list_any (λ c. goes from to (plain c)) self.now.channels.items }
     {
-        self.channels.iter().any(|channel| channel.start as u32 == from
-            && channel.finish as u32 == to)
+        let joins = |channel: &Channel| channel.start as u32 == from && channel.finish as u32 == to;
+        self.channels.iter().any(joins)
     }
 }
 
