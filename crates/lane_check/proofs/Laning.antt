@@ -1,5 +1,5 @@
 -- From the cells of a lane to the model's dependencies, and from lane to lane.
-use Rattle.std.proofs.Common.{◌≡◌, ℕ, zero, suc, ◌+◌, ◌-◌, ◌*◌, ◌<◌, ◌≤◌, Bool, true, false, ◌&&◌, leb, List, [], ◌∷◌, ◌++◌, length, take, drop, Some, None, sym, refl, ap, ◌∙◌, subst, mul-le-mul_right, suc-mul, add-one, arith}
+use Rattle.std.proofs.Common.{◌≡◌, ℕ, zero, suc, ◌+◌, ◌-◌, ◌*◌, ◌<◌, ◌≤◌, Bool, true, false, ◌&&◌, leb, List, [], ◌∷◌, ◌++◌, length, take, drop, sym, refl, ap, ◌∙◌, subst, mul-le-mul_right, suc-mul, add-one, arith}
 use Rattle.std.proofs.lemmas.List.{append_assoc, append-nil, length-append, take_at, drop_at, drop-drop}
 use Rattle.std.proofs.lemmas.Bool.{both_ways}
 use Rattle.model.specs.Lists.{up_from, below, joined, different}
@@ -14,7 +14,6 @@ use Rattle.model.proofs.Cycles.{cycle_exact_lem}
 use Rattle.model.proofs.Judging.{accepted_completes}
 use Rattle.fabric.specs.Channels.{Inside}
 use Rattle.lane_check.specs.Cells.{edge_at}
-use Rattle.lane_check.specs.Orders.{Sorted}
 use Rattle.lane_check.specs.Circles.{Looped}
 use Rattle.lane_check.proofs.Listing.{up_from_more, up_from_none}
 use Rattle.lane_check.proofs.Apart.{lane_apart}
@@ -40,7 +39,7 @@ module _ (net : Net) (rule : Rule) (ℓ n : ℕ) (cells : List Bool) (size : n �
   pub cells_inside : (b c : ℕ) → edge_at cells b c ≡ true → (b < n) × (c < n)
   cells_inside b c t = let p = deps_inside net rule ℓ b c (sym (each b c) ∙ t) in (omega arith, omega arith)
 
-  pub cells_cycle : Inside net.switches net.channels → Sorted n (lane_deps net rule ℓ) None → (cs : List ℕ) × (is_cycle (edge_at cells) cs ≡ true)
+  pub cells_cycle : Inside net.switches net.channels → completes n (lane_deps net rule ℓ) ≡ false → (cs : List ℕ) × (is_cycle (edge_at cells) cs ≡ true)
   cells_cycle inside s =
       let es = lane_deps net rule ℓ in
       let r =
@@ -48,8 +47,8 @@ module _ (net : Net) (rule : Rule) (ℓ n : ℕ) (cells : List Bool) (size : n �
       (subst (λ (m : ℕ). completes m es ≡ false) size s) in
       (r.0, cycle_same (edge_at cells) (depends net rule ℓ) each r.0 ∙ r.1)
 
-  pub cells_order : (list : List ℕ) → Sorted n (lane_deps net rule ℓ) (Some list) → take (count net) list ≡ lane_order net rule ℓ
-  cells_order list s = subst (λ (m : ℕ). take m list ≡ order_of m (lane_deps net rule ℓ)) size s.1
+  pub cells_order : (list : List ℕ) → take n list ≡ order_of n (lane_deps net rule ℓ) → take (count net) list ≡ lane_order net rule ℓ
+  cells_order list s = subst (λ (m : ℕ). take m list ≡ order_of m (lane_deps net rule ℓ)) size s
 
 -- A loop over the lanes: those below i have no cycle.
 module _ (net : Net) (rule : Rule) (lanes : ℕ) where
@@ -69,10 +68,10 @@ module _ (net : Net) (rule : Rule) (lanes : ℕ) where
       C ∙ ap (lanes_verdict net rule) (up_from_more (lanes - i) (lanes - (i + 1)) i (omega arith))
       ∙ ap (λ (t : Bool). elim t as (λ _. Verdict) [ true ↦ lanes_verdict net rule (up_from (lanes - (i + 1)) (i + 1)) | false ↦ cyclic i ]) s
 
-  pub clear_more : (i n : ℕ) (list : List ℕ) → i < lanes → n ≡ count net → Clear i → Sorted n (lane_deps net rule i) (Some list) → Clear (i + 1)
-  clear_more i n list h q C s = next i true h C (subst (λ (m : ℕ). completes m (lane_deps net rule i) ≡ true) q s.0)
+  pub clear_more : (i n : ℕ) → i < lanes → n ≡ count net → Clear i → completes n (lane_deps net rule i) ≡ true → Clear (i + 1)
+  clear_more i n h q C s = next i true h C (subst (λ (m : ℕ). completes m (lane_deps net rule i) ≡ true) q s)
 
-  pub clear_cyclic : (i n : ℕ) → i < lanes → n ≡ count net → Clear i → Sorted n (lane_deps net rule i) None
+  pub clear_cyclic : (i n : ℕ) → i < lanes → n ≡ count net → Clear i → completes n (lane_deps net rule i) ≡ false
       → lanes_verdict net rule (below lanes) ≡ cyclic i
   clear_cyclic i n h q C s = next i false h C (subst (λ (m : ℕ). completes m (lane_deps net rule i) ≡ false) q s)
 
@@ -138,7 +137,7 @@ module _ (g : Setup) where
       ∙ ap (λ (z : List ℕ). z ++ drop ((i + 1) * n) was) (sym (ap orders_to (add-one i) ∙ orders_more i))
 
   -- An accepted setup leaves no lane without its order.
-  pub never_stuck : Accepts g → (i n : ℕ) → i < g.lanes → n ≡ count g.net → Sorted n (lane_deps g.net g.rule i) None → ⊥
+  pub never_stuck : Accepts g → (i n : ℕ) → i < g.lanes → n ≡ count g.net → completes n (lane_deps g.net g.rule i) ≡ false → ⊥
   never_stuck A i n h q s =
       both_ways (completes (count g.net) (lane_deps g.net g.rule i))
       (subst (λ (m : ℕ). completes m (lane_deps g.net g.rule i) ≡ false) q s) (accepted_completes g A i h)

@@ -1,5 +1,5 @@
 -- From what the parts of the check found to its answer.
-use Rattle.std.proofs.Common.{◌≡◌, ℕ, ◌*◌, ◌≤◌, Bool, true, false, cond, leb, List, [], ◌++◌, length, drop, Some, None, sym, refl, ap, ◌∙◌, subst, arith}
+use Rattle.std.proofs.Common.{◌≡◌, ℕ, ◌*◌, ◌≤◌, Bool, true, false, cond, leb, List, [], ◌++◌, length, drop, Some, Ok, Err, sym, refl, ap, ◌∙◌, subst, arith}
 use Rattle.std.proofs.lemmas.List.{append-nil}
 use Rattle.std.proofs.lemmas.Bool.{and_parts, leb-true}
 use Rattle.model.specs.Net.{count}
@@ -28,7 +28,7 @@ module _ (g : Setup) where
   all_pairs : judged_pairs (pairs_of g.net.switches ++ []) ≡ verdict g
   all_pairs = ap judged_pairs (append-nil (pairs_of g.net.switches))
 
-  pub paired : FirstFault g.net g.lanes g.rule (pairs_of g.net.switches) None → Paired g
+  pub paired : FirstFault g.net g.lanes g.rule (pairs_of g.net.switches) (Ok tt) → Paired g
   paired t = sym all_pairs ∙ t []
 
   -- A lane count or a list that is refused.
@@ -54,7 +54,7 @@ module _ (g : Setup) where
       at : (v : Verdict) → verdict g ≡ v → (o' c' : List ℕ) (r : X) → Settles on_yes on_no g (finding v) o o' c c' r → Checked on_yes on_no g o o' c c' r
       at v e o' c' r s = subst (λ (z : Finding). Settles on_yes on_no g z o o' c c' r) (sym (found_verdict ∙ ap finding e)) s
 
-      pub says_fault : (f : RuleFault) → FirstFault g.net g.lanes g.rule (pairs_of g.net.switches) (Some f)
+      pub says_fault : (f : RuleFault) → FirstFault g.net g.lanes g.rule (pairs_of g.net.switches) (Err f)
           → Checked on_yes on_no g o o c c (on_no f)
       says_fault f t =
           let x = t [] in

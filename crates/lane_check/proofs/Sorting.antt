@@ -4,7 +4,7 @@ use Rattle.std.proofs.lemmas.List.{append_assoc, append-nil, get_or_past, get_or
 use Rattle.std.proofs.lemmas.Bool.{and_parts, and_from, and_right, and_left, both_ways, not-false, eqb-true, eq-eqb, ne_eqb, ltb-true, cases_eq, cases_lt, cases_Bool}
 use Rattle.model.specs.Lists.{up_from, below, all_of, first, keep, is_in, without, is_empty, different}
 use Rattle.model.specs.Routes.{Edge, has}
-use Rattle.model.specs.Order.{free, order_from, rest_from, order_of, completes}
+use Rattle.model.specs.Order.{free, order_from, rest_from, order_of}
 use Rattle.model.proofs.Members.{is_in_cases, is_in_at, is_in_there, any_keep, all_of_any, all_of_fails, all_from, is_in_below, below_in, all_below, different_more, different_parts, different_up_from, first_in, without_one, length-up_from}
 use Rattle.model.proofs.Ordering.{free_before}
 use Rattle.lane_check.specs.Orders.{marked, blocks, Blocked, Watched, NextFree, Sorted}
@@ -190,11 +190,11 @@ module _ (n : ℕ) (e : ℕ → ℕ → Bool) (few : n ≤ 128) where
 
   module _ (list : List ℕ) (waits : List Bool) (watch : List ℕ) (k : ℕ) (T : Turned n e list waits watch k) where
     -- Nothing is free, and something is left.
-    pub turned_stuck : k < n → NextFree e (marked waits) n None → (es : List Edge) → ((b c : ℕ) → e b c ≡ has es b c) → completes n es ≡ false
+    pub turned_stuck : k < n → NextFree e (marked waits) n None → (es : List Edge) → ((b c : ℕ) → e b c ≡ has es b c) → Sorted n es None
     turned_stuck h F es same =
         let t = T.each es same in
         let r : rest_from es n (below n) ≡ keep (marked waits) (below n) = t.rest ∙ rest_stop es (n - k) _ (next_first es e same n (marked waits) None F) in
-        ap is_empty r ∙ some (keep (marked waits) (below n)) t.size
+        (sym (ap is_empty r ∙ some (keep (marked waits) (below n)) t.size), tt)
       where
         some : (xs : List ℕ) → length xs + k ≡ n → is_empty xs ≡ false
         some [] l = absurd (omega arith)
@@ -261,7 +261,7 @@ module _ (n : ℕ) (e : ℕ → ℕ → Bool) (few : n ≤ 128) where
         let t = T.each es same in
         let over : n - k ≡ 0 = omega arith in
         let z : keep (marked waits) (below n) ≡ [] = nil_from_length (keep (marked waits) (below n)) (omega (arith, t.size)) in (
-          ap is_empty (t.rest ∙ ap (rest_from es (n - k)) z ∙ rest_stop es (n - k) [] refl),
+          sym (ap is_empty (t.rest ∙ ap (rest_from es (n - k)) z ∙ rest_stop es (n - k) [] refl)),
           sym (t.order ∙ ap (λ (y : List ℕ). take k list ++ order_from es (n - k) y) z
               ∙ ap (λ (m : ℕ). take k list ++ order_from es m []) over ∙ append-nil (take k list) ∙ ap (λ (m : ℕ). take m list) q),
         )

@@ -1,5 +1,5 @@
 -- What the check finds, by the model's verdict.
-use Rattle.std.specs.Prelude.{◌≡◌, ℕ, not, List, [], ◌∷◌, ◌++◌, map, Some, None, Option, ◌==◌}
+use Rattle.std.specs.Prelude.{◌≡◌, ℕ, not, List, [], ◌∷◌, ◌++◌, map, Some, Ok, Err, Result, ◌==◌}
 use Rattle.model.specs.Lists.{keep}
 use Rattle.model.specs.Net.{Net}
 use Rattle.model.specs.Refusals.{Refusal, refuse, rule_layer}
@@ -23,12 +23,12 @@ finding (laneless s d) = refused (refuse rule_layer 7 (s ∷ d ∷ []))
 finding (cyclic ℓ) = cycle_in ℓ
 
 -- A fault is what the verdict finds; without one the verdict is that of the rest.
-abbrev pub Tells : Verdict → Verdict → Option RuleFault → Type 0
-Tells rest v None = v ≡ rest
-Tells rest v (Some f) = (x : Refusal) × (finding v ≡ refused x) × (rule_refusal f ≡ Some x)
+abbrev pub Tells : Verdict → Verdict → Result (Unit {0}) RuleFault → Type 0
+Tells rest v (Ok _) = v ≡ rest
+Tells rest v (Err f) = (x : Refusal) × (finding v ≡ refused x) × (rule_refusal f ≡ Some x)
 
 -- The first fault of these pairs, whatever pairs come after them.
-abbrev pub FirstFault : Net → ℕ → Rule → List Pair → Option RuleFault → Type 0
+abbrev pub FirstFault : Net → ℕ → Rule → List Pair → Result (Unit {0}) RuleFault → Type 0
 FirstFault net lanes rule ps r =
     (after : List Pair) → Tells (pairs_verdict net lanes rule after) (pairs_verdict net lanes rule (ps ++ after)) r
 

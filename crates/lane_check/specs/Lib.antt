@@ -1,4 +1,3 @@
-pub mod Walks
 pub mod Cells
 pub mod Orders
 pub mod Circles

@@ -1,6 +1,7 @@
 -- How the order of a lane is found: which channels wait, and what blocks them. e tells which channel leads to which, w which of them
 -- wait, n how many there are.
-use Rattle.std.specs.Prelude.{◌≡◌, ℕ, ◌<◌, ◌≤◌, Bool, true, false, ◌&&◌, List, take, Some, None, Option, slice_index, slice_index_or}
+use Rattle.std.specs.Prelude.{◌≡◌, ℕ, ◌<◌, ◌≤◌, Bool, true, false, ◌&&◌, List, take, Some, None, Option, IfSome, slice_index, slice_index_or}
+use Rattle.std.specs.Option.{is_some}
 use Rattle.model.specs.Routes.{Edge}
 use Rattle.model.specs.Order.{order_of, completes}
 
@@ -36,7 +37,6 @@ NextFree e w n None = (c : ℕ) → c < n → w c ≡ true → Blocked e w n c
 NextFree e w n (Some c) =
     (c < n) × (w c ≡ true) × ((b : ℕ) → b < n → blocks e w c b ≡ false) × ((x : ℕ) → x < c → w x ≡ true → Blocked e w n x)
 
--- The order of n channels is found in the list, or it takes not every channel.
+-- There is a list exactly where the order takes each of n channels, and then it begins with the order.
 abbrev pub Sorted : ℕ → List Edge → Option (List ℕ) → Type 0
-Sorted n es None = completes n es ≡ false
-Sorted n es (Some list) = (completes n es ≡ true) × (take n list ≡ order_of n es)
+Sorted n es r = (is_some r ≡ completes n es) × IfSome r (λ list. take n list ≡ order_of n es)

@@ -5,7 +5,6 @@
 pub mod lane;
 mod pairs;
 pub mod verdict;
-mod walk;
 
 pub use lane::Dependencies;
 pub use lane::noting::dependencies;

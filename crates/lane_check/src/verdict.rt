@@ -5,7 +5,7 @@ ghost use Rattle.fabric.specs.Of.{net};
 ghost use Rattle.lane_check.specs.Checks.{setup_of, few_lanes, long_enough, Checked, YesExactly};
 ghost use Rattle.lane_check.specs.Answers.{accepted, part};
 
-use crate::pairs::pairs_fault;
+use crate::pairs::judge_pairs;
 use crate::verdict::lanes::settle_lanes;
 use fabric::{CallFault, Fabric};
 use routing::{RouteRule, RuleFault};
@@ -53,12 +53,8 @@ pub fn check<R: RouteRule>(
     if !long_enough(fabric, lanes, order, cycle) {
         return Err(RuleFault::Call(CallFault::ShortList));
     }
-    if let Some(fault) = pairs_fault(fabric, lanes, rule) {
-        return Err(fault);
-    }
-    if let Some(found) = settle_lanes(fabric, lanes, rule, order, cycle) {
-        return Err(RuleFault::Cyclic(found.lane, found.length));
-    }
+    judge_pairs(fabric, lanes, rule)?;
+    settle_lanes(fabric, lanes, rule, order, cycle)?;
     Ok(Accepted {
         lanes: lanes as u8,
         channels: fabric.channel_count() as u8,

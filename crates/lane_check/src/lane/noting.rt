@@ -1,21 +1,12 @@
 ghost use Rattle.std.specs.Prelude.{◌≡◌, ℕ, false};
 ghost use Rattle.model.specs.Net.{count};
-ghost use Rattle.model.specs.Routes.{hop, route, steps, has, depends};
+ghost use Rattle.model.specs.Routes.{route, steps, has, depends};
 ghost use Rattle.fabric.specs.Of.{net};
-ghost use Rattle.lane_check.specs.Walks.{Stepped};
 ghost use Rattle.lane_check.specs.Cells.{edge_at, Adds, of_lane, taken_from};
 
 use crate::lane::Dependencies;
-use crate::walk::{Step, take_step};
 use fabric::Fabric;
-use routing::RouteRule;
-
-// The step directly after this one on the route to a destination.
-fn step_after<R: RouteRule>(fabric: &Fabric, rule: &R, last: Step, destination: u8) -> Option<Step>
-    ensures { Stepped (net fabric.now) (hop (net fabric.now) (R.maps rule.now) last.to destination) result }
-{
-    take_step(fabric, rule, last.to, destination)
-}
+use routing::{RouteRule, next_hop};
 
 // Adds the dependencies of the route of one pair.
 fn note_route<R: RouteRule>(
@@ -27,12 +18,12 @@ fn note_route<R: RouteRule>(
 )
     ensures { Adds (has (steps (route (net fabric.now) (R.maps rule.now) source destination))) cells.old cells.new }
 {
-    let Some(first) = take_step(fabric, rule, source, destination) else {
+    let Some(first) = next_hop(fabric, rule, source, destination) else {
         return;
     };
     let mut last = first;
     for _k in 0..fabric.switch_count() - 2 {
-        let Some(next) = step_after(fabric, rule, last, destination) else {
+        let Some(next) = next_hop(fabric, rule, last.to, destination) else {
             return;
         };
         cells[last.channel as usize * 128 + next.channel as usize] = true;

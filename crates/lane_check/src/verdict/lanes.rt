@@ -9,22 +9,15 @@ use crate::lane::cycle::write_cycle;
 use crate::lane::noting::dependencies;
 use crate::lane::order::sort;
 use fabric::Fabric;
-use routing::RouteRule;
+use routing::{RouteRule, RuleFault};
 
-// A lane with a cycle, and the cycle's length.
-#[derive(Clone, Copy)]
-pub(crate) struct CyclicLane {
-    pub(crate) lane: u8,
-    pub(crate) length: u8,
-}
-
-// The lowest lane with a cycle; the cycle is written to the front of the list.
-pub(crate) fn first_cycle<R: RouteRule>(
+// Whether no lane has a cycle. That of the lowest lane with one is written to the front of the list.
+fn judge_lanes<R: RouteRule>(
     fabric: &Fabric,
     lanes: u32,
     rule: &R,
     cycle: &mut [u8],
-) -> Option<CyclicLane>
+) -> Result<(), RuleFault>
     requires few { lanes ≤ 8 }
     requires room { count (net fabric.now) ≤ length cycle.old }
     requires paired { Paired (setup_of fabric.now lanes (R.maps rule.now)) }
@@ -32,15 +25,11 @@ pub(crate) fn first_cycle<R: RouteRule>(
 {
     for lane in 0..lanes {
         let found = dependencies(fabric, rule, lane);
-        match sort(&found) {
-            Some(_) => {}
-            None => return Some(CyclicLane {
-                lane: lane as u8,
-                length: write_cycle(&found, cycle),
-            }),
+        if sort(&found).is_none() {
+            return Err(RuleFault::Cyclic(lane as u8, write_cycle(&found, cycle)));
         }
     }
-    None
+    Ok(())
 }
 
 // Copies the first `size` bytes of a list to the place `from` on.
@@ -52,7 +41,7 @@ fn put(list: &[u8; 128], size: usize, order: &mut [u8], from: usize)
 }
 
 // Writes the orders of the lanes of a setup that is fine into the front of the list.
-pub(crate) fn write_orders<R: RouteRule>(fabric: &Fabric, lanes: u32, rule: &R, order: &mut [u8])
+fn write_orders<R: RouteRule>(fabric: &Fabric, lanes: u32, rule: &R, order: &mut [u8])
     requires few { lanes ≤ 8 }
     requires room { lanes * count (net fabric.now) ≤ length order.old }
     requires fine { verdict (setup_of fabric.now lanes (R.maps rule.now)) ≡ fine }
@@ -67,22 +56,20 @@ pub(crate) fn write_orders<R: RouteRule>(fabric: &Fabric, lanes: u32, rule: &R, 
     }
 }
 
-// Once no pair is at fault: the lowest lane with a cycle, which is written, or else the orders of all lanes are.
+// Once no pair is at fault: whether no lane has a cycle. A cycle is written, or else the orders of all lanes are.
 pub(crate) fn settle_lanes<R: RouteRule>(
     fabric: &Fabric,
     lanes: u32,
     rule: &R,
     order: &mut [u8],
     cycle: &mut [u8],
-) -> Option<CyclicLane>
+) -> Result<(), RuleFault>
     requires few { lanes ≤ 8 }
     requires room { (lanes * count (net fabric.now) ≤ length order.old) × (count (net fabric.now) ≤ length cycle.old) }
     requires paired { Paired (setup_of fabric.now lanes (R.maps rule.now)) }
     ensures { LanesSettled (setup_of fabric.now lanes (R.maps rule.now)) order.old order.new cycle.old cycle.new result }
 {
-    if let Some(found) = first_cycle(fabric, lanes, rule, cycle) {
-        return Some(found);
-    }
+    judge_lanes(fabric, lanes, rule, cycle)?;
     write_orders(fabric, lanes, rule, order);
-    None
+    Ok(())
 }

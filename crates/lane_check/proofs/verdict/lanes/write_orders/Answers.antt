@@ -1,4 +1,4 @@
-use Rattle.std.proofs.Common.{ℕ, ◌+◌, ◌*◌, List, ◌++◌, take, drop, ap, ◌∙◌, arith}
+use Rattle.std.proofs.Common.{ℕ, ◌+◌, ◌*◌, List, ◌++◌, take, drop, sym, ap, ◌∙◌, arith}
 use Rattle.model.specs.Net.{count}
 use Rattle.model.specs.Routes.{lane_deps}
 use Rattle.model.proofs.Judging.{verdict_exact_lem}
@@ -34,8 +34,8 @@ loop-lane-preserved g c =
           let list = w.in-Some.list in
           let at : ℕ → List ℕ = λ k. take (ℓ * k) c.loop-lane.order ++ (take k list ++ drop (ℓ * k + k) c.loop-lane.order) in
           wrote_more G ℓ c.args.order.now c.loop-lane.order c.match-sort.order (take n list) A (omega arith) c.loop-lane.invariant
-          (cells_order G.net G.rule ℓ d.channels d.cells D.size D.each list (w.in-Some.ensures es D.each))
+          (cells_order G.net G.rule ℓ d.channels d.cells D.size D.each list (w.in-Some.ensures es D.each).1)
           (w.order-is ∙ (w.put.ensures ∙ ap at c.channel_count-channels.ensures.is))
       | in_default w ↦
-          absurd (never_stuck G A ℓ d.channels (omega arith) D.size (w.in_default.ensures es D.each))
+          absurd (never_stuck G A ℓ d.channels (omega arith) D.size (sym (w.in_default.ensures es D.each).0))
     ]

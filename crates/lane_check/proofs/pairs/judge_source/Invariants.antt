@@ -2,7 +2,7 @@ use Rattle.std.proofs.Common.{[], ◌∷◌}
 use Rattle.fabric.specs.Of.{net}
 use Rattle.lane_check.specs.Findings.{pairs_to}
 use Rattle.lane_check.proofs.Faulting.{Faultless}
-use Rattle.lane_check.proofs.pairs.source_fault.Given as goal
+use Rattle.lane_check.proofs.pairs.judge_source.Given as goal
 
 abbrev pub invariant-loop-destination : goal.invariant-loop-destination
 invariant-loop-destination g l =

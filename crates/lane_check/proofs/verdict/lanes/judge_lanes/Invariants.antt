@@ -1,7 +1,7 @@
 use Rattle.std.proofs.Common.{◌≡◌}
 use Rattle.fabric.specs.Of.{net}
 use Rattle.lane_check.proofs.Laning.{Clear}
-use Rattle.lane_check.proofs.verdict.lanes.first_cycle.Given as goal
+use Rattle.lane_check.proofs.verdict.lanes.judge_lanes.Given as goal
 
 abbrev pub invariant-loop-lane : goal.invariant-loop-lane
 invariant-loop-lane g l =

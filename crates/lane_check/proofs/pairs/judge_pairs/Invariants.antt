@@ -2,7 +2,7 @@ use Rattle.model.specs.Lists.{below}
 use Rattle.fabric.specs.Of.{net}
 use Rattle.lane_check.specs.Findings.{pairs_to}
 use Rattle.lane_check.proofs.Faulting.{Faultless}
-use Rattle.lane_check.proofs.pairs.pairs_fault.Given as goal
+use Rattle.lane_check.proofs.pairs.judge_pairs.Given as goal
 
 abbrev pub invariant-loop-source : goal.invariant-loop-source
 invariant-loop-source g l =
