@@ -32,12 +32,12 @@ fn judge_lanes<R: RouteRule>(
     Ok(())
 }
 
-// Copies the first `size` bytes of a list to the place `from` on.
-fn put(list: &[u8; 128], size: usize, order: &mut [u8], from: usize)
-    requires { (size ≤ 128) × (from + size ≤ length order.old) }
-    ensures { order.new ≡ take from order.old ++ (take size list.now ++ drop (from + size) order.old) }
+// Copies a list to the place `from` on.
+fn put(list: &[u8], order: &mut [u8], from: usize)
+    requires { from + length list.now ≤ length order.old }
+    ensures { order.new ≡ take from order.old ++ (list.now ++ drop (from + length list.now) order.old) }
 {
-    order[from..from + size].copy_from_slice(&list[0..size]);
+    order[from..from + list.len()].copy_from_slice(list);
 }
 
 // Writes the orders of the lanes of a setup that is fine into the front of the list.
@@ -49,10 +49,8 @@ fn write_orders<R: RouteRule>(fabric: &Fabric, lanes: u32, rule: &R, order: &mut
 {
     let channels = fabric.channel_count() as usize;
     for lane in 0..lanes {
-        let found = dependencies(fabric, rule, lane);
-        if let Some(list) = sort(&found) {
-            put(&list, channels, order, lane as usize * channels);
-        }
+        let list = sort(&dependencies(fabric, rule, lane)).unwrap();
+        put(&list, order, lane as usize * channels);
     }
 }
 
