@@ -1,5 +1,5 @@
 -- What the code of the order does, turn by turn.
-use Rattle.std.proofs.Common.{◌≡◌, ℕ, zero, suc, ◌+◌, ◌-◌, ◌<◌, ◌≤◌, Bool, true, false, cond, not, ◌&&◌, eqb, ltb, List, [], ◌∷◌, ◌++◌, length, get_or, set, replicate, Some, None, IfSome, Option, sym, refl, ap, ◌∙◌, subst, inl, inr, arith}
+use Rattle.std.proofs.Common.{◌≡◌, ℕ, zero, suc, ◌+◌, ◌-◌, ◌<◌, ◌≤◌, Bool, true, false, cond, not, ◌&&◌, eqb, ltb, List, [], ◌∷◌, ◌++◌, length, get_or, set, replicate, Some, None, IfSome, Option, sym, refl, ap, ◌∙◌, subst, inl, inr, arith, below_more}
 use Rattle.std.specs.Option.{is_some}
 use Rattle.std.proofs.lemmas.List.{append_assoc, append-nil, get_or_past, get_or-replicate, get_or-set_same, get_or-set_other, length_push, nil_from_length}
 use Rattle.std.proofs.lemmas.Bool.{and_parts, and_from, and_right, and_left, both_ways, not-false, eqb-true, eq-eqb, ne_eqb, ltb-true, cases_eq, cases_lt, cases_Bool}
@@ -8,7 +8,7 @@ use Rattle.model.specs.Routes.{Edge, has}
 use Rattle.model.specs.Order.{free, order_from, rest_from, order_of, completes}
 use Rattle.model.proofs.Members.{is_in_cases, is_in_at, is_in_there, any_keep, all_of_any, all_of_fails, all_from, is_in_below, below_in, all_below, different_more, different_parts, different_up_from, first_in, without_one, length-up_from}
 use Rattle.model.proofs.Ordering.{free_before}
-use Rattle.lane_check.specs.Orders.{waits, blocks, Blocked, Watched, NextFree}
+use Rattle.lane_check.specs.Orders.{waits, blocks, Blocked, Watched, Free, Held, HeldBelow, NextFree}
 use Rattle.lane_check.proofs.Listing.{any_kept}
 
 -- The elements that pass, and the first of them.
@@ -127,10 +127,10 @@ module _ (es : List Edge) (e : ℕ → ℕ → Bool) (same : (b c : ℕ) → e b
           ]
 
       found : (r : Option ℕ) → NextFree e w n r → first f (below n) ≡ r
-      found None F = first_nowhere f n 0 (λ x a b. stays x (F x (omega arith)))
+      found None F = first_nowhere f n 0 (λ x a b. stays x (F.each x (omega arith)).blocked)
       found (Some c) F =
-          first_lowest f n 0 c (and_from (w c) (free es (keep w (below n)) c) F.1 (free_yes w c F.2)) (omega arith) (omega (arith, F.0))
-          (λ x a b. stays x (F.3 x b))
+          first_lowest f n 0 c (and_from (w c) (free es (keep w (below n)) c) F.1.waiting (free_yes w c F.1.alone)) (omega arith) (omega (arith, F.0))
+          (λ x a b. stays x (F.2.each x b).blocked)
 
 module _ (es : List Edge) where
   order_on : (m k c : ℕ) (rest : List ℕ) → m ≡ suc k → first (free es rest) rest ≡ Some c
@@ -260,3 +260,12 @@ module _ (n : ℕ) (e : ℕ → ℕ → Bool) (few : n ≤ 128) where
           sym (t.order ∙ ap (λ (y : List ℕ). list ++ order_from es (n - k) y) z
               ∙ ap (λ (m : ℕ). list ++ order_from es m []) over ∙ append-nil list),
         )
+
+-- What is free or held by one watch is so by another for which the same channels wait.
+module _ (e : ℕ → ℕ → Bool) (n : ℕ) where
+  pub free_same : (c : ℕ) (xs ys : List (Option ℕ)) → waits xs ≡ waits ys → Free e (waits xs) n c → Free e (waits ys) n c
+  free_same c xs ys q f = subst (λ (w : ℕ → Bool). Free e w n c) q f
+
+  pub held_more : (k : ℕ) (xs ys : List (Option ℕ)) → waits xs ≡ waits ys → Held e (waits xs) n k → HeldBelow e (waits ys) n k
+      → HeldBelow e (waits ys) n (k + 1)
+  held_more k xs ys q h b = record { each = below_more _ _ b.each (subst (λ (w : ℕ → Bool). Held e w n k) q h) }

@@ -1,6 +1,6 @@
 -- How the order of a lane is found: which channels wait, and what blocks them. e tells which channel leads to which, w which of them
 -- wait, n how many there are.
-use Rattle.std.specs.Prelude.{◌≡◌, ℕ, ◌<◌, ◌≤◌, Bool, true, false, ◌&&◌, List, Some, None, Option, IfSome, MatchOption, slice_index_or}
+use Rattle.std.specs.Prelude.{◌≡◌, ℕ, ◌<◌, ◌≤◌, Bool, true, false, ◌&&◌, List, Some, None, Option, IfSome, MatchBool, MatchOption, slice_index_or}
 use Rattle.std.specs.Option.{is_some}
 use Rattle.arrayvec.specs.ArrayVec.{ArrayVec}
 use Rattle.model.specs.Routes.{Edge}
@@ -28,15 +28,26 @@ FirstBlock e w n c a r =
 abbrev pub Watched : (ℕ → ℕ → Bool) → List (Option ℕ) → Type 0
 Watched e watch = (c : ℕ) → IfSome (slice_index_or watch c None) (λ a. (b : ℕ) → b < a → blocks e (waits watch) c b ≡ false)
 
--- Channel c waits, and none blocks it; or it does not wait, or some channel blocks it.
+-- Channel c waits, and none blocks it.
+pub record Free (e : ℕ → ℕ → Bool) (w : ℕ → Bool) (n c : ℕ) : Type 0 where
+  pub waiting : w c ≡ true
+  pub alone : (b : ℕ) → b < n → blocks e w c b ≡ false
+
+-- Channel c does not wait, or some channel blocks it.
+pub record Held (e : ℕ → ℕ → Bool) (w : ℕ → Bool) (n c : ℕ) : Type 0 where
+  pub blocked : w c ≡ true → Blocked e w n c
+
 abbrev pub FreeOr : (ℕ → ℕ → Bool) → (ℕ → Bool) → ℕ → ℕ → Bool → Type 0
-FreeOr e w n c r = (r ≡ true → (w c ≡ true) × ((b : ℕ) → b < n → blocks e w c b ≡ false)) × (r ≡ false → w c ≡ true → Blocked e w n c)
+FreeOr e w n c r = MatchBool r (Free e w n c) (Held e w n c)
+
+-- No channel below k is free.
+pub record HeldBelow (e : ℕ → ℕ → Bool) (w : ℕ → Bool) (n k : ℕ) : Type 0 where
+  pub each : (c : ℕ) → c < k → Held e w n c
 
 -- The lowest channel that waits and that none blocks.
 abbrev pub NextFree : (ℕ → ℕ → Bool) → (ℕ → Bool) → ℕ → Option ℕ → Type 0
-NextFree e w n None = (c : ℕ) → c < n → w c ≡ true → Blocked e w n c
-NextFree e w n (Some c) =
-    (c < n) × (w c ≡ true) × ((b : ℕ) → b < n → blocks e w c b ≡ false) × ((x : ℕ) → x < c → w x ≡ true → Blocked e w n x)
+NextFree e w n None = HeldBelow e w n n
+NextFree e w n (Some c) = (c < n) × Free e w n c × HeldBelow e w n c
 
 -- There is a list exactly where the order takes each of n channels, and it is the order.
 abbrev pub Sorted : ℕ → List Edge → Option (ArrayVec ℕ) → Type 0

@@ -38,6 +38,7 @@ fn is_free<G: Graph>(lane: &G, watch: &mut [Option<u8>; 128], channel: u32) -> b
 }
 
 // The lowest channel that waits and whose predecessors do not.
+#[tactic(auto, using(crate::proofs::Sorting::free_same, crate::proofs::Sorting::held_more))]
 fn next_free<G: Graph>(lane: &G, watch: &mut [Option<u8>; 128]) -> Option<u8>
     requires { Watched (G.edge lane.now) watch.old }
     ensures free { NextFree (G.edge lane.now) (waits watch.old) (G.nodes lane.now) result }
