@@ -4,6 +4,7 @@ pub mod Adding
 pub mod Apart
 pub mod Sorting
 pub mod Circling
+pub mod Ranging
 pub mod Faulting
 pub mod Laning
 pub mod Settling
