@@ -13,12 +13,12 @@ pub found_some : {A P : Type 0} (Q : A → Type 0) (r : Option A) → MatchOptio
 found_some Q None p not = absurd (not p)
 found_some Q (Some x) p not = refl
 
--- Where `find_map` finds nothing, each number of the range gave nothing.
-pub none_mapped : {F B : Type 0} (g : Mut F (ℕ × Unit {0}) (Option B)) (f : F) (s : Range ℕ) (r : Option B) (Found : Run nat_range_steps → B → Type 0)
+-- Where `find_map` finds nothing, each number of the range gave nothing, and so it has No.
+pub none_mapped : {F B : Type 0} (g : Mut F (ℕ × Unit {0}) (Option B)) (f : F) (s : Range ℕ) (r : Option B) (Found : Run nat_range_steps → B → Type 0) (No : ℕ → Type 0)
     → SomeRun nat_range_steps s (λ p. MatchOption r (IsTrue p.whole × AllItemsGive p g f None) (Found p)) → CallKeepsClosure g f
-    → MatchOption r ((x : ℕ) → s.start ≤ x → x < s.end → Called g f (x, tt) None f) (λ _. Unit {0})
-none_mapped g f s (Some y) Found run keeps = tt
-none_mapped g f s None Found run keeps = λ x lo hi.
+    → ((x : ℕ) → Called g f (x, tt) None f → No x) → MatchOption r ((x : ℕ) → s.start ≤ x → x < s.end → No x) (λ _. Unit {0})
+none_mapped g f s (Some y) Found No run keeps so = tt
+none_mapped g f s None Found No run keeps so = λ x lo hi.
     let p = run.0 in
     let R = range_runs p p.seen in
     let from : p.from ≡ s = run.1 in
@@ -26,7 +26,7 @@ none_mapped g f s None Found run keeps = λ x lo hi.
     let end : p.from.end ≡ s.end = ap (λ (z : Range ℕ). z.end) from in
     let k : ℕ = x - s.start in
     let here : option_map (λ y. y) (p.at k) ≡ Some x = R.3 k (omega (arith, R.1 run.2.0)) ∙ ap (λ (n : ℕ). Some n) (omega arith) in
-    at (p.at k) x here (run.2.1 keeps k)
+    so x (at (p.at k) x here (run.2.1 keeps k))
   where
     at : (o : Option ℕ) (x : ℕ) → option_map (λ y. y) o ≡ Some x → IfSome o (λ y. Called g f (y, tt) None f) → Called g f (x, tt) None f
     at None x e h = cc

@@ -30,9 +30,10 @@ fn way_round<G: Graph>(lane: &G, channel: u32) -> Option<Round>
     ensures { MatchOption result (Open (G.edge lane.now) (G.nodes lane.now) channel) (Rounds (G.edge lane.now) (G.nodes lane.now)) }
 {
     let row = distances_from(lane, channel);
-    let last = (0..lane.node_count()).find(|last| lane.leads(*last, channel)
-        && row.to(*last).is_some())?;
-    let hops = row.to(last)?;
+    let (last, hops) = (0..lane.node_count()).find_map(|last| {
+        let hops = row.to(last)?;
+        lane.leads(last, channel).then_some((last, hops))
+    })?;
     Some(Round {
         first: channel,
         row,
