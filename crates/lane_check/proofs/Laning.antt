@@ -6,18 +6,19 @@ use Rattle.model.specs.Net.{Net, count}
 use Rattle.model.specs.Rules.{Rule, Setup}
 use Rattle.model.specs.Routes.{lane_deps, depends, chained, closed, is_cycle}
 use Rattle.model.specs.Order.{completes, order_of, lane_order}
-use Rattle.model.specs.Verdicts.{Accepts, Verdict, fine, cyclic, lanes_verdict}
+use Rattle.model.specs.Verdicts.{Accepts, Verdict, fine, cyclic, lanes_verdict, verdict}
 use Rattle.model.proofs.Dependencies.{deps_inside}
 use Rattle.model.proofs.Ordering.{order_exact_lem}
 use Rattle.model.proofs.Cycles.{cycle_exact_lem}
 use Rattle.model.proofs.Judging.{accepted_completes}
-use Rattle.fabric.specs.Channels.{Inside}
 use Rattle.arrayvec.specs.ArrayVec.{ArrayVec}
-use Rattle.lane_check.specs.Cells.{edge_at}
+use Rattle.routing.specs.Edges.{loopless}
+use Rattle.routing.specs.Dependencies.{leads}
+use Rattle.routing.specs.declared.dependencies.Dependencies.{Dependencies}
+use Rattle.lane_check.specs.Answers.{Paired}
 use Rattle.lane_check.specs.Circles.{Looped}
 use Rattle.lane_check.specs.Orders.{Sorted}
 use Rattle.lane_check.proofs.Listing.{up_from_more, up_from_none}
-use Rattle.lane_check.proofs.Apart.{lane_apart}
 
 -- Tests that answer alike have the same cycles.
 module _ (e h : ℕ → ℕ → Bool) (same : (b c : ℕ) → e b c ≡ h b c) where
@@ -36,45 +37,42 @@ module _ (e h : ℕ → ℕ → Bool) (same : (b c : ℕ) → e b c ≡ h b c) w
   pub looped_same : (k : ℕ) (was is : List ℕ) → Looped e k was is → Looped h k was is
   looped_same k was is L = record { cycle = L.cycle; round = sym (cycle_same L.cycle) ∙ L.round; size = L.size; list = L.list }
 
-module _ (net : Net) (rule : Rule) (ℓ n : ℕ) (cells : List Bool) (size : n ≡ count net) (each : (b c : ℕ) → edge_at cells b c ≡ depends net rule ℓ b c) where
-  pub cells_inside : (b c : ℕ) → edge_at cells b c ≡ true → (b < n) × (c < n)
-  cells_inside b c t = let p = deps_inside net rule ℓ b c (sym (each b c) ∙ t) in (omega arith, omega arith)
-
-  pub cells_cycle : Inside net.switches net.channels → completes n (lane_deps net rule ℓ) ≡ false → (cs : List ℕ) × (is_cycle (edge_at cells) cs ≡ true)
-  cells_cycle inside s =
-      let es = lane_deps net rule ℓ in
-      let r =
-      (cycle_exact_lem (count net) es (record { inside = deps_inside net rule ℓ; apart = lane_apart net rule inside ℓ })).1
-      (subst (λ (m : ℕ). completes m es ≡ false) size s) in
-      (r.0, cycle_same (edge_at cells) (depends net rule ℓ) each r.0 ∙ r.1)
+-- The dependencies of a lane have a cycle where the order takes not every channel.
+pub leads_cycle : (net : Net) (rule : Rule) (ℓ : ℕ) (d : Dependencies) → d.channels ≡ count net → ((b c : ℕ) → leads d b c ≡ depends net rule ℓ b c)
+    → completes d.channels (lane_deps net rule ℓ) ≡ false → (cs : List ℕ) × (is_cycle (leads d) cs ≡ true)
+leads_cycle net rule ℓ d size each s =
+    let es = lane_deps net rule ℓ in
+    let r =
+    (cycle_exact_lem (count net) es (record { inside = deps_inside net rule ℓ; apart = λ c. sym (each c c) ∙ loopless d.channels d.cells d.among c })).1
+    (subst (λ (m : ℕ). completes m es ≡ false) size s) in
+    (r.0, cycle_same (leads d) (depends net rule ℓ) each r.0 ∙ r.1)
 
 -- A loop over the lanes: those below i have no cycle.
-module _ (net : Net) (rule : Rule) (lanes : ℕ) where
-  abbrev pub Clear : ℕ → Type 0
-  Clear i = lanes_verdict net rule (below lanes) ≡ lanes_verdict net rule (up_from (lanes - i) i)
+pub record Clear (g : Setup) (i : ℕ) : Type 0 where
+  pub left : verdict g ≡ lanes_verdict g.net g.rule (up_from (g.lanes - i) i)
 
-  pub clear_none : Clear 0
-  clear_none = ap (λ (m : ℕ). lanes_verdict net rule (up_from m 0)) (all lanes)
+module _ (g : Setup) where
+  pub clear_none : Paired g → Clear g 0
+  clear_none p = record { left = p ∙ ap (λ (m : ℕ). lanes_verdict g.net g.rule (up_from m 0)) (all g.lanes) }
     where
       all : (m : ℕ) → m ≡ m - 0
       all m = omega arith
 
-  next : (i : ℕ) (b : Bool) → i < lanes → Clear i → completes (count net) (lane_deps net rule i) ≡ b
-      → lanes_verdict net rule (below lanes)
-      ≡ elim b as (λ _. Verdict) [ true ↦ lanes_verdict net rule (up_from (lanes - (i + 1)) (i + 1)) | false ↦ cyclic i ]
-  next i b h C s =
-      C ∙ ap (lanes_verdict net rule) (up_from_more (lanes - i) (lanes - (i + 1)) i (omega arith))
-      ∙ ap (λ (t : Bool). elim t as (λ _. Verdict) [ true ↦ lanes_verdict net rule (up_from (lanes - (i + 1)) (i + 1)) | false ↦ cyclic i ]) s
+  next : (i n : ℕ) (b : Bool) → i < g.lanes → n ≡ count g.net → completes n (lane_deps g.net g.rule i) ≡ b → Clear g i
+      → verdict g ≡ elim b as (λ _. Verdict) [ true ↦ lanes_verdict g.net g.rule (up_from (g.lanes - (i + 1)) (i + 1)) | false ↦ cyclic i ]
+  next i n b h q s C =
+      C.left ∙ ap (lanes_verdict g.net g.rule) (up_from_more (g.lanes - i) (g.lanes - (i + 1)) i (omega arith))
+      ∙ ap (λ (t : Bool). elim t as (λ _. Verdict) [ true ↦ lanes_verdict g.net g.rule (up_from (g.lanes - (i + 1)) (i + 1)) | false ↦ cyclic i ])
+      (ap (λ (m : ℕ). completes m (lane_deps g.net g.rule i)) (sym q) ∙ s)
 
-  pub clear_more : (i n : ℕ) → i < lanes → n ≡ count net → Clear i → completes n (lane_deps net rule i) ≡ true → Clear (i + 1)
-  clear_more i n h q C s = next i true h C (subst (λ (m : ℕ). completes m (lane_deps net rule i) ≡ true) q s)
+  pub clear_more : (i n : ℕ) → i < g.lanes → n ≡ count g.net → completes n (lane_deps g.net g.rule i) ≡ true → Clear g i → Clear g (i + 1)
+  clear_more i n h q s C = record { left = next i n true h q s C }
 
-  pub clear_cyclic : (i n : ℕ) → i < lanes → n ≡ count net → Clear i → completes n (lane_deps net rule i) ≡ false
-      → lanes_verdict net rule (below lanes) ≡ cyclic i
-  clear_cyclic i n h q C s = next i false h C (subst (λ (m : ℕ). completes m (lane_deps net rule i) ≡ false) q s)
+  pub clear_cyclic : (i n : ℕ) → i < g.lanes → n ≡ count g.net → completes n (lane_deps g.net g.rule i) ≡ false → Clear g i → verdict g ≡ cyclic i
+  clear_cyclic i n h q s C = next i n false h q s C
 
-  pub clear_all : (i : ℕ) → lanes ≤ i → Clear i → lanes_verdict net rule (below lanes) ≡ fine
-  clear_all i h C = C ∙ ap (lanes_verdict net rule) (up_from_none (lanes - i) i (omega arith))
+  pub clear_all : (i : ℕ) → g.lanes ≤ i → Clear g i → verdict g ≡ fine
+  clear_all i h C = C.left ∙ ap (lanes_verdict g.net g.rule) (up_from_none (g.lanes - i) i (omega arith))
 
 -- The orders of the lanes below i stand at the front of the list.
 module _ (g : Setup) where

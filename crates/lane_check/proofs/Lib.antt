@@ -1,10 +1,7 @@
-pub mod Stepping
 pub mod Listing
 pub mod Adding
-pub mod Apart
 pub mod Sorting
 pub mod Circling
 pub mod Ranging
-pub mod Faulting
 pub mod Laning
 pub mod Settling

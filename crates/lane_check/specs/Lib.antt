@@ -1,4 +1,3 @@
-pub mod Cells
 pub mod Orders
 pub mod Circles
 pub mod Findings
