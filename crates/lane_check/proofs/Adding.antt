@@ -1,12 +1,13 @@
 -- How a lane comes to have its dependencies.
 use Rattle.std.proofs.Common.{◌≡◌, ℕ, Bool, true, false, ◌&&◌, ◌||◌, eqb, cond, List, ◌∷◌, ◌++◌, refl, ap, sym, ◌∙◌}
-use Rattle.std.proofs.lemmas.Bool.{eq-eqb, cond-true, cond-false}
+use Rattle.std.proofs.lemmas.Bool.{cond-true, cond-false}
 use Rattle.model.specs.Lists.{keep, joined}
 use Rattle.model.specs.Net.{Net}
 use Rattle.model.specs.Rules.{Rule}
 use Rattle.model.specs.Routes.{Pair, Edge, route, steps, has}
 use Rattle.routing.specs.declared.dependencies.Dependencies.{Dependencies}
-use Rattle.routing.specs.Dependencies.{leads, Adds}
+use Rattle.routing.specs.Dependencies.{leads}
+use Rattle.lane_check.specs.Notes.{Noted}
 use Rattle.lane_check.proofs.Listing.{any_append}
 
 or_assoc : (x y z : Bool) → ((x || y) || z) ≡ (x || (y || z))
@@ -29,14 +30,14 @@ module _ (net : Net) (rule : Rule) (ℓ : ℕ) where
   deps_on p ps false e = ap (λ (xs : List Pair). joined (λ x. steps (route net rule x.source x.destination)) xs) (cond-false _ _ _ e)
 
   -- A pair of the lane is added.
-  pub adding_pair : (was is is' : Dependencies) (all : List Edge) (ps ps' : List Pair) (p : Pair) → ps ≡ p ∷ ps' → rule.lane p.source p.destination ≡ ℓ
-      → Adds (has (steps (route net rule p.source p.destination))) is is' → Adding was is all (deps_of ps) → Adding was is' all (deps_of ps')
+  pub adding_pair : (was is is' : Dependencies) (all : List Edge) (ps ps' : List Pair) (p : Pair) → ps ≡ p ∷ ps' → true ≡ eqb (rule.lane p.source p.destination) ℓ
+      → Noted (steps (route net rule p.source p.destination)) is is' → Adding was is all (deps_of ps) → Adding was is' all (deps_of ps')
   adding_pair was is is' all ps ps' p q e T A =
       record {
         each = λ b c.
-            ap (λ (t : Bool). t || has (deps_of ps') b c) (T b c)
+            ap (λ (t : Bool). t || has (deps_of ps') b c) (T.adds b c)
             ∙ or_assoc (leads is b c) (has (steps (route net rule p.source p.destination)) b c) (has (deps_of ps') b c)
             ∙ ap (λ (t : Bool). leads is b c || t) (sym (any_append (λ x. eqb x.tail b && eqb x.head c) (steps (route net rule p.source p.destination)) (deps_of ps')))
-            ∙ ap (λ (xs : List Edge). leads is b c || has xs b c) (sym (ap deps_of q ∙ deps_on p ps' true (eq-eqb _ _ e)))
+            ∙ ap (λ (xs : List Edge). leads is b c || has xs b c) (sym (ap deps_of q ∙ deps_on p ps' true (sym e)))
             ∙ A.each b c;
       }

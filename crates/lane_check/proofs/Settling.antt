@@ -1,12 +1,11 @@
 -- From what the parts of the check found to its answer.
 use Rattle.std.proofs.Common.{◌≡◌, ℕ, ◌*◌, ◌≤◌, true, false, leb, List, ◌++◌, length, drop, Some, None, Option, Ok, Err, Result, MatchOption, sym, refl, ap, ◌∙◌, subst}
-use Rattle.std.proofs.lemmas.Bool.{and_parts, and_from, leb-true, le-leb, cond-true, cond-false, false_from_ne_true}
+use Rattle.std.proofs.lemmas.Bool.{and_parts, leb-true, cond-true, cond-false}
 use Rattle.model.specs.Net.{count}
 use Rattle.model.specs.Refusals.{Refusal}
 use Rattle.model.specs.Rules.{Setup}
 use Rattle.model.specs.Verdicts.{Accepts, Verdict, fine, stopped, unreached, laneless, cyclic, verdict}
 use Rattle.model.proofs.Judging.{verdict_exact_lem}
-use Rattle.fabric.specs.Lanes.{IsLaneCount}
 use Rattle.routing.specs.Faults.{rule_refusal}
 use Rattle.routing.specs.declared.fault.RuleFault.{RuleFault}
 use Rattle.routing.specs.declared.fault.RuleFault.TheVariants.{Cyclic}
@@ -15,24 +14,18 @@ use Rattle.lane_check.specs.Findings.{Finding, refused, finding, FirstFault}
 use Rattle.lane_check.specs.Checks.{few_lanes, long_enough, bad_lane_count, short_list, found, Refuses, Settles, Checked, YesExactly}
 use Rattle.lane_check.specs.Answers.{accepted, LanesSettled}
 
-pub few_is : (lanes : ℕ) → IsLaneCount lanes → few_lanes lanes ≡ true
-few_is lanes h = and_from (leb 1 lanes) (leb lanes 8) (le-leb 1 lanes h.0) (le-leb lanes 8 h.1)
-
-pub few_not : (lanes : ℕ) → (IsLaneCount lanes → ⊥) → few_lanes lanes ≡ false
-few_not lanes not = false_from_ne_true _ (λ e. let p = and_parts (leb 1 lanes) (leb lanes 8) e in not (leb-true 1 lanes p.0, leb-true lanes 8 p.1))
-
 pub long_parts : (lanes n o c : ℕ) → true ≡ long_enough lanes n o c → (lanes * n ≤ o) × (n ≤ c)
 long_parts lanes n o c e = let p = and_parts (leb (lanes * n) o) (leb n c) (sym e) in (leb-true (lanes * n) o p.0, leb-true n c p.1)
 
 module _ (g : Setup) (o c : ℕ) where
-  pub found_count : (IsLaneCount g.lanes → ⊥) → found g o c ≡ refused bad_lane_count
-  found_count h = cond-false _ _ _ (few_not g.lanes h)
+  pub found_count : few_lanes g.lanes ≡ false → found g o c ≡ refused bad_lane_count
+  found_count h = cond-false _ _ _ h
 
-  pub found_short : IsLaneCount g.lanes → false ≡ long_enough g.lanes (count g.net) o c → found g o c ≡ refused short_list
-  found_short few long = cond-true _ _ _ (few_is g.lanes few) ∙ cond-false _ _ _ (sym long)
+  pub found_short : few_lanes g.lanes ≡ true → false ≡ long_enough g.lanes (count g.net) o c → found g o c ≡ refused short_list
+  found_short few long = cond-true _ _ _ few ∙ cond-false _ _ _ (sym long)
 
-  pub found_verdict : IsLaneCount g.lanes → true ≡ long_enough g.lanes (count g.net) o c → found g o c ≡ finding (verdict g)
-  found_verdict few long = cond-true _ _ _ (few_is g.lanes few) ∙ cond-true _ _ _ (sym long)
+  pub found_verdict : few_lanes g.lanes ≡ true → true ≡ long_enough g.lanes (count g.net) o c → found g o c ≡ finding (verdict g)
+  found_verdict few long = cond-true _ _ _ few ∙ cond-true _ _ _ (sym long)
 
 -- The answer of the check to what it found is a yes exactly for an accepted setup.
 module _ (g : Setup) (o o' c c' : List ℕ) where
@@ -62,7 +55,7 @@ module _ (g : Setup) (o o' c c' : List ℕ) where
       by_verdict r (cyclic ℓ) e t = no_yes r _ t.2 (λ q. cc)
 
   -- What a fault of the pairs, a cycle of a lane, and neither of them leave.
-  module _ (few : IsLaneCount g.lanes) (long : true ≡ long_enough g.lanes (count g.net) (length o) (length c)) where
+  module _ (few : few_lanes g.lanes ≡ true) (long : true ≡ long_enough g.lanes (count g.net) (length o) (length c)) where
     at : (v : Verdict) (r : Result Accepted RuleFault) → verdict g ≡ v → Settles (accepted g) g (finding v) o o' c c' r → Answers r
     at v r e s = answers (finding v) r (found_verdict g (length o) (length c) few long ∙ ap finding e) s
 

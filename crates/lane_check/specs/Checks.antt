@@ -1,5 +1,5 @@
 -- What the check answers, and what it leaves in the caller's two lists.
-use Rattle.std.specs.Prelude.{◌≡◌, ℕ, ◌*◌, Bool, true, cond, ◌&&◌, List, [], ◌∷◌, ◌++◌, length, drop, Some, Ok, Result, MatchResult, nat_le}
+use Rattle.std.specs.Prelude.{◌≡◌, ℕ, ◌*◌, Bool, true, false, cond, ◌&&◌, List, [], ◌∷◌, ◌++◌, length, drop, Some, Ok, Err, Result, MatchResult, nat_le}
 use Rattle.model.specs.Lists.{below, joined}
 use Rattle.model.specs.Net.{count}
 use Rattle.model.specs.Refusals.{Refusal, refuse, call_layer, rule_layer}
@@ -7,7 +7,9 @@ use Rattle.model.specs.Rules.{Rule, Setup}
 use Rattle.model.specs.Routes.{depends, is_cycle}
 use Rattle.model.specs.Order.{lane_order}
 use Rattle.model.specs.Verdicts.{Accepts, verdict}
+use Rattle.fabric.specs.Faults.{call_refusal}
 use Rattle.fabric.specs.Of.{net}
+use Rattle.fabric.specs.declared.fault.CallFault.{CallFault}
 use Rattle.fabric.specs.declared.network.Fabric.{Fabric}
 use Rattle.routing.specs.Faults.{rule_refusal}
 use Rattle.routing.specs.declared.fault.RuleFault.{RuleFault}
@@ -30,6 +32,11 @@ short_list = refuse call_layer 13 []
 
 abbrev pub few_lanes : ℕ → Bool
 few_lanes lanes = nat_le 1 lanes && nat_le lanes 8
+
+-- Making what is judged answers just that, or the refusal of a lane count that is not 1 to 8.
+abbrev pub MakesSetup : {R : Type 0} → (R → Rule) → Setup → Result (CodeSetup R) CallFault → Type 0
+MakesSetup maps g (Ok s) = (model_of maps s ≡ g) × (few_lanes s.lanes.lanes ≡ true)
+MakesSetup maps g (Err f) = (call_refusal f ≡ Some bad_lane_count) × (few_lanes g.lanes ≡ false)
 
 -- An order list of o bytes has one for each of n channels of each lane, and a cycle list of c bytes one for each channel.
 abbrev pub long_enough : ℕ → ℕ → ℕ → ℕ → Bool

@@ -1,3 +1,4 @@
+pub mod Notes
 pub mod Orders
 pub mod Circles
 pub mod Findings

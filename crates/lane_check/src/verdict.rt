@@ -2,11 +2,11 @@ ghost use Rattle.std.specs.Prelude.{◌≡◌, length, Ok, Err};
 ghost use Rattle.model.specs.Net.{count};
 ghost use Rattle.fabric.specs.Faults.{call_refusal};
 ghost use Rattle.fabric.specs.Of.{net};
-ghost use Rattle.lane_check.specs.Checks.{setup_of, long_enough, Checked, YesExactly};
+ghost use Rattle.lane_check.specs.Checks.{setup_of, model_of, long_enough, Checked, YesExactly};
 ghost use Rattle.lane_check.specs.Answers.{accepted, part};
 
 use crate::setup::Setup;
-use fabric::{CallFault, Fabric, LaneCount};
+use fabric::{CallFault, Fabric};
 use routing::{RouteRule, RuleFault};
 
 pub(crate) mod lanes;
@@ -18,7 +18,17 @@ pub struct Accepted {
     channels: u8,
 }
 
-impl<R> Setup<'_, '_, R> {
+impl<R: RouteRule> Setup<'_, '_, R> {
+    // A yes to the setup.
+    fn accepted(&self) -> Accepted
+        ensures { result ≡ accepted (model_of R.maps self.now) }
+    {
+        Accepted {
+            lanes: self.lanes.get() as u8,
+            channels: self.fabric.channel_count() as u8,
+        }
+    }
+
     // Whether the order list has a byte for each channel of each lane, and the cycle list one for each channel.
     fn long_enough(&self, order: &[u8], cycle: &[u8]) -> bool
         ensures { result ≡ long_enough self.now.lanes.lanes (count (net self.now.fabric.now)) (length order.now) (length cycle.now) }
@@ -41,21 +51,13 @@ pub fn check<R: RouteRule>(
     ensures exact { let g = setup_of fabric.now lanes (R.maps rule.now) in Checked (accepted g) g order.old order.new cycle.old cycle.new result }
     ensures accepts { let g = setup_of fabric.now lanes (R.maps rule.now) in YesExactly (accepted g) g (length order.old) (length cycle.old) result }
 {
-    let lanes = LaneCount::try_from(lanes)?;
-    let setup = Setup {
-        fabric,
-        lanes,
-        rule,
-    };
+    let setup = Setup::of(fabric, lanes, rule)?;
     if !setup.long_enough(order, cycle) {
         return Err(RuleFault::Call(CallFault::ShortList));
     }
     setup.judge_pairs()?;
     setup.settle_lanes(order, cycle)?;
-    Ok(Accepted {
-        lanes: lanes.get() as u8,
-        channels: fabric.channel_count() as u8,
-    })
+    Ok(setup.accepted())
 }
 
 // What shows a verdict of the check: after a yes the named lane's part of the order list, after a cycle its part of the cycle list,
