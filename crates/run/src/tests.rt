@@ -143,14 +143,6 @@ fn lists_of_requests(rt: HostRuntime) -> Result<(), Fail> {
     Ok(())
 }
 
-// The fault of a replay, if there is one.
-fn fault(replayed: Result<Run<'_, Wild>, CallFault>) -> Option<CallFault> {
-    match replayed {
-        Ok(_) => None,
-        Err(fault) => Some(fault),
-    }
-}
-
 #[test]
 fn refused_replays(rt: HostRuntime) -> Result<(), Fail> {
     let ring = Fabric::new(rt.alloc(), 4, &ENDS)?;
@@ -158,15 +150,15 @@ fn refused_replays(rt: HostRuntime) -> Result<(), Fail> {
     let mut answers = [Answer::Taken; 1];
     let requests = [Request::Look(0, 0); 2];
     assert_eq!(rt;
-        fault(Run::replay(&ring, 1, &rule, &requests, &mut answers)),
+        Run::replay(&ring, 1, &rule, &requests, &mut answers).err(),
         Some(CallFault::ShortList)
     );
     assert_eq!(rt;
-        fault(Run::replay(&ring, 9, &rule, &requests, &mut answers)),
+        Run::replay(&ring, 9, &rule, &requests, &mut answers).err(),
         Some(CallFault::LaneCount)
     );
     assert_eq!(rt;
-        fault(Run::replay(&ring, 0, &rule, &[], &mut answers)),
+        Run::replay(&ring, 0, &rule, &[], &mut answers).err(),
         Some(CallFault::LaneCount)
     );
     assert_eq!(rt; answers[0], Answer::Taken);
