@@ -6,7 +6,7 @@ use Rattle.std.proofs.lemmas.List.{get_or-replicate, get_or_past, length-replica
 use Rattle.model.specs.State.{put, empty}
 use Rattle.run.specs.Words.{packet_of}
 use Rattle.run.specs.View.{cell, empty_slot, view}
-use Rattle.run.specs.declared.lanes.Lanes.{Lanes}
+use Rattle.run.specs.declared.by_lane.ByLane.{ByLane}
 
 -- A table that holds the same everywhere.
 pub cell_same : {X : Type 0} (n m i j : ℕ) (d : X) → cell (replicate n (record { items = replicate m d })) i j d ≡ d

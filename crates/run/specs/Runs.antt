@@ -5,7 +5,7 @@ use Rattle.model.specs.Net.{count}
 use Rattle.model.specs.Rules.{Rule, Setup}
 use Rattle.model.specs.Packets.{Packet, bare, Call, Request, Reply, said}
 use Rattle.model.specs.State.{State, each}
-use Rattle.model.specs.Positions.{position_count}
+use Rattle.model.specs.Positions.{Position, position_count, position_at}
 use Rattle.model.specs.Run.{step, contends, missing_number}
 use Rattle.model.specs.History.{state_after, reply, grown, reply_to, asked, replies}
 use Rattle.model.specs.Promise.{Law}
@@ -35,6 +35,13 @@ pub record Does (g : Setup) (b : Board) (c : Call) (b' : Board) (a : Reply) : Ty
   pub state : view b' ≡ (step (λ p. p) (λ p. p) g (view b) c).state
   pub says : a ≡ said (λ p. p) (step (λ p. p) (λ p. p) g (view b) c).event
 
+-- Position p of the site's channel, and how many positions the channel has.
+abbrev pub position_of : {R : Type 0} → Site R → ℕ → Option Position
+position_of x p = position_at (net x.setup.now.fabric.now) x.slot.channel p
+
+abbrev pub positions_of : {R : Type 0} → Site R → ℕ
+positions_of x = position_count (net x.setup.now.fabric.now) x.slot.channel
+
 module _ {R : Type 0} (maps : R → Rule) where
   -- The setup of a fabric, a lane count and a rule.
   abbrev pub setup_for : Fabric → ℕ → R → Setup
@@ -62,10 +69,6 @@ module _ {R : Type 0} (maps : R → Rule) where
   -- Which positions contend for the site, on what a board shows.
   abbrev pub contending : Site R → State Packet → ℕ → Bool
   contending x s = contends (λ p. p) (λ p. p) (setup_at x) s x.slot.channel x.slot.lane
-
-  -- How many positions the site's channel has.
-  abbrev pub positions_of : Site R → ℕ
-  positions_of x = position_count (net x.setup.now.fabric.now) x.slot.channel
 
   -- The run did what the rules say of this call, and answered that.
   pub record Steps (r : Run R) (c : Call) (r' : Run R) (a : Option Reply) : Type 0 where

@@ -24,9 +24,9 @@ Packs g p (Ok x) = (is_pair g.net.switches p.source p.destination ≡ true) × (
 Packs g p (Err e) = (is_pair g.net.switches p.source p.destination ≡ false) × (call_refusal e ≡ Some missing_number)
 
 -- The sender slot of a packet, or the refusal of a pair whose lane is not below the lane count.
-abbrev pub Lanes : Setup → Packet → Result SenderPlace RuleFault → Type 0
-Lanes g p (Ok x) = (x.switch ≡ p.source) × (x.lane ≡ lane_for g p) × (x.lane < g.lanes)
-Lanes g p (Err f) = (nat_lt (lane_for g p) g.lanes ≡ false) × (rule_refusal f ≡ Some (laneless_pair p.source p.destination))
+abbrev pub FindsSenderFor : Setup → Packet → Result SenderPlace RuleFault → Type 0
+FindsSenderFor g p (Ok x) = (x.switch ≡ p.source) × (x.lane ≡ lane_for g p) × (x.lane < g.lanes)
+FindsSenderFor g p (Err f) = (nat_lt (lane_for g p) g.lanes ≡ false) × (rule_refusal f ≡ Some (laneless_pair p.source p.destination))
 
 -- A packet let in, or the refusal of a sender slot that is taken.
 abbrev pub Admits : State Packet → SenderPlace → Packet → State Packet → Result (Unit {0}) CallFault → Type 0

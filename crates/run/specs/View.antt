@@ -6,11 +6,11 @@ use Rattle.model.specs.State.{State}
 use Rattle.run.specs.Words.{packet_of}
 use Rattle.run.specs.declared.board.Board.{Board}
 use Rattle.run.specs.declared.board.Slot.{Slot}
-use Rattle.run.specs.declared.lanes.Lanes.{Lanes}
+use Rattle.run.specs.declared.by_lane.ByLane.{ByLane}
 use Rattle.run.specs.declared.packet.Packet.{Packet as CodePacket}
 
 -- What row i of a table holds in lane j; past its rows and its lanes there is d.
-abbrev pub cell : {T : Type 0} → List (Lanes T) → ℕ → ℕ → T → T
+abbrev pub cell : {T : Type 0} → List (ByLane T) → ℕ → ℕ → T → T
 cell rows i j d = slice_index_or (slice_index_or rows i (record { items = [] })).items j d
 
 -- It holds nothing, and its mark is 0.

@@ -5,7 +5,7 @@ ghost use Rattle.run.specs.Words.{packet_of};
 ghost use Rattle.run.specs.Sites.{Admits};
 ghost use Rattle.run.specs.View.{view, slot_at, sender_at};
 
-use crate::lanes::Lanes;
+use crate::by_lane::ByLane;
 use crate::packet::Packet;
 use crate::place::{SenderPlace, SlotPlace};
 use fabric::CallFault;
@@ -20,8 +20,8 @@ pub struct Slot {
 // The slots of each channel, and the sender slots of each switch.
 #[derive(Drop)]
 pub struct Board {
-    pub slots: [Lanes<Slot>; 128],
-    pub senders: [Lanes<Option<Packet>>; 32],
+    pub slots: [ByLane<Slot>; 128],
+    pub senders: [ByLane<Option<Packet>>; 32],
 }
 
 impl Board {
@@ -34,8 +34,8 @@ impl Board {
             mark: 0,
         };
         Board {
-            slots: [Lanes { items: [empty; 8] }; 128],
-            senders: [Lanes { items: [None; 8] }; 32],
+            slots: [ByLane { items: [empty; 8] }; 128],
+            senders: [ByLane { items: [None; 8] }; 32],
         }
     }
 

@@ -2,7 +2,7 @@
 #![tactic(auto)]
 
 mod board;
-mod lanes;
+mod by_lane;
 pub mod packet;
 mod place;
 pub mod run;

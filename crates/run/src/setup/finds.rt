@@ -1,6 +1,6 @@
 ghost use Rattle.std.specs.Prelude.{◌<◌};
 ghost use Rattle.run.specs.Words.{packet_of};
-ghost use Rattle.run.specs.Sites.{FindsSender, Packs, Lanes};
+ghost use Rattle.run.specs.Sites.{FindsSender, FindsSenderFor, Packs};
 ghost use Rattle.run.specs.Runs.{plain_setup, Finds};
 
 use crate::packet::Packet;
@@ -67,7 +67,7 @@ impl<R: RouteRule> Setup<'_, R> {
     // The sender slot of a packet: that of its source, in its lane.
     pub fn sender_for(&self, packet: Packet) -> Result<SenderPlace, RuleFault>
         requires { packet.source < 32 }
-        ensures { Lanes (plain_setup R.maps self.now) (packet_of packet) result }
+        ensures { FindsSenderFor (plain_setup R.maps self.now) (packet_of packet) result }
     {
         let lane = self.rule.lane(packet.source, packet.destination);
         if lane >= self.lanes {

@@ -1,11 +1,9 @@
-ghost use Rattle.std.specs.Prelude.{◌≡◌, ◌≤◌, Some};
+ghost use Rattle.std.specs.Prelude.{◌≡◌, ◌<◌, Some};
 ghost use Rattle.std.specs.Option.{option_map};
 ghost use Rattle.model.specs.Run.{after, wants, held_at, cleared, granted, advanced, first_from};
 ghost use Rattle.run.specs.Words.{packet_of};
 ghost use Rattle.run.specs.View.{view};
-ghost use Rattle.model.specs.Positions.{position_at};
-ghost use Rattle.fabric.specs.Of.{net};
-ghost use Rattle.run.specs.Runs.{setup_at, contending, positions_of};
+ghost use Rattle.run.specs.Runs.{setup_at, position_of, positions_of, contending};
 
 use crate::board::{Board, Slot};
 use crate::packet::Packet;
@@ -13,20 +11,40 @@ use crate::place::SlotPlace;
 use crate::site::Site;
 use fabric::Position;
 use routing::RouteRule;
+use std::iter;
 
 // The position after p of k, with 0 after the last.
-fn position_after(k: u32, p: u8) -> u8
-    requires { k ≤ 129 }
+fn position_after(k: u8, p: u8) -> u8
     ensures { result ≡ after k p }
 {
-    let next = p as u32 + 1;
-    if next < k { next as u8 } else { 0 }
+    match p.checked_add(1) {
+        Some(next) if next < k => next,
+        _ => 0,
+    }
 }
 
 impl<R: RouteRule> Site<'_, R> {
+    // How many positions the slot's channel has.
+    fn position_count(&self) -> u8
+        ensures { result ≡ positions_of self.now }
+    {
+        self.setup.fabric.position_count(self.slot.channel as u32) as u8
+    }
+
+    // The slot of another channel, in the same lane.
+    fn over(&self, channel: u8) -> SlotPlace
+        requires { channel < 128 }
+        ensures { (result.channel ≡ channel) × (result.lane ≡ self.now.slot.lane) }
+    {
+        SlotPlace {
+            channel,
+            lane: self.slot.lane,
+        }
+    }
+
     // What stands at position p.
     fn waiting(&self, board: &Board, p: u8) -> Option<Packet>
-        ensures { option_map packet_of result ≡ held_at (view board.now) self.now.sender.switch self.now.slot.lane (position_at (net self.now.setup.now.fabric.now) self.now.slot.channel p) }
+        ensures { option_map packet_of result ≡ held_at (view board.now) self.now.sender.switch self.now.slot.lane (position_of self.now p) }
     {
         match self
             .setup
@@ -34,12 +52,7 @@ impl<R: RouteRule> Site<'_, R> {
             .position(self.slot.channel as u32, p as u32)?
         {
             Position::Sender => board.sender(self.sender),
-            Position::Over(channel) => board
-                .slot(SlotPlace {
-                    channel,
-                    lane: self.slot.lane,
-                })
-                .held,
+            Position::Over(channel) => board.slot(self.over(channel)).held,
         }
     }
 
@@ -62,17 +75,12 @@ impl<R: RouteRule> Site<'_, R> {
 
     // The first contending position from this one on, going round.
     fn first_from(&self, board: &Board, from: u8) -> Option<u8>
-        ensures { result ≡ first_from (contending R.maps self.now (view board.now)) (positions_of R.maps self.now) from (positions_of R.maps self.now) }
+        ensures { result ≡ first_from (contending R.maps self.now (view board.now)) (positions_of self.now) from (positions_of self.now) }
     {
-        let k = self.setup.fabric.position_count(self.slot.channel as u32);
-        let mut p = from;
-        for _tried in 0..k {
-            if self.contends(board, p) {
-                return Some(p);
-            }
-            p = position_after(k, p);
-        }
-        None
+        let k = self.position_count();
+        iter::successors(Some(from), |p| Some(position_after(k, *p)))
+            .take(k as usize)
+            .find(|p| self.contends(board, *p))
     }
 
     // The first contending position from the turn mark on, going round.
@@ -84,7 +92,7 @@ impl<R: RouteRule> Site<'_, R> {
 
     // Empties position p.
     fn clear(&self, board: &mut Board, p: u8)
-        ensures { view board.new ≡ cleared (view board.old) self.now.sender.switch self.now.slot.lane (position_at (net self.now.setup.now.fabric.now) self.now.slot.channel p) }
+        ensures { view board.new ≡ cleared (view board.old) self.now.sender.switch self.now.slot.lane (position_of self.now p) }
     {
         match self
             .setup
@@ -93,13 +101,7 @@ impl<R: RouteRule> Site<'_, R> {
         {
             None => {}
             Some(Position::Sender) => board.load(self.sender, None),
-            Some(Position::Over(channel)) => board.hold(
-                SlotPlace {
-                    channel,
-                    lane: self.slot.lane,
-                },
-                None,
-            ),
+            Some(Position::Over(channel)) => board.hold(self.over(channel), None),
         }
     }
 
@@ -109,8 +111,7 @@ impl<R: RouteRule> Site<'_, R> {
     {
         let held = self.waiting(board, p);
         self.clear(board, p);
-        let k = self.setup.fabric.position_count(self.slot.channel as u32);
-        let mark = position_after(k, p);
+        let mark = position_after(self.position_count(), p);
         board.set(self.slot, Slot { held, mark });
     }
 }

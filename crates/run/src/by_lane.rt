@@ -2,11 +2,11 @@ ghost use Rattle.std.specs.Prelude.{◌≡◌, ℕ, ◌<◌, ◌==◌, if◌then
 
 // What stands in each of the eight lanes of a channel or a switch.
 #[derive(Clone, Copy)]
-pub struct Lanes<T> {
+pub struct ByLane<T> {
     pub items: [T; 8],
 }
 
-impl<T: Copy> Lanes<T> {
+impl<T: Copy> ByLane<T> {
     pub fn get(&self, lane: u8) -> T
         requires { lane < 8 }
         ensures { (d : _) → result ≡ slice_index_or self.now.items lane d }
