@@ -20,7 +20,7 @@ FindsSender g u ℓ (Err e) = ((nat_lt u g.net.switches && nat_lt ℓ g.lanes) �
 
 -- The packet of a post, or the refusal of two switches that are no pair.
 abbrev pub Packs : Setup → Packet → Result CodePacket CallFault → Type 0
-Packs g p (Ok x) = (is_pair g.net.switches p.source p.destination ≡ true) × (packet_of x ≡ p) × (x.source < 32)
+Packs g p (Ok x) = (is_pair g.net.switches p.source p.destination ≡ true) × (packet_of x ≡ p) × (x.source < 32) × (x.destination < 32)
 Packs g p (Err e) = (is_pair g.net.switches p.source p.destination ≡ false) × (call_refusal e ≡ Some missing_number)
 
 -- The sender slot of a packet, or the refusal of a pair whose lane is not below the lane count.

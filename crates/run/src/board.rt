@@ -57,7 +57,6 @@ impl Board {
         self.slots[at.channel as usize].put(at.lane, slot);
     }
 
-    #[tactic(auto, using(crate::proofs::Boards::put_same))]
     pub fn hold(&mut self, at: SlotPlace, held: Option<Packet>)
         ensures { view self.new ≡ with_slot (view self.old) at.channel at.lane (option_map packet_of held) }
     {
