@@ -6,12 +6,12 @@ ghost use Rattle.model.specs.Rules.{channel_byte};
 use anyhow::anyhow;
 use fabric::Fabric;
 use lane_check::check;
+use routing::RouteRule;
 use routing::table::Table;
-use routing::{RouteRule, RuleFault};
-use run::{Answer, Call, Outcome, Request, Run};
+use run::{Answer, Call, Request, Run};
 use std::alloc::Global;
 
-// A rule of this program's own, which borrows: channels by switch and destination, four to a row; every lane is 0.
+// Channels by switch and destination, four to a row; every lane is 0. The program's own rule, to show that any caller's rule serves.
 #[derive(Drop)]
 struct Rows<'a> {
     channels: &'a [u8],
@@ -56,17 +56,11 @@ const REQUESTS: [Request; 9] = [
 ];
 
 fn ring(heap: Global) -> anyhow::Result<Fabric> {
-    match Fabric::new(heap, 4, &ENDS) {
-        Ok(fabric) => Ok(fabric),
-        Err(_) => Err(anyhow!("no fabric")),
-    }
+    Fabric::new(heap, 4, &ENDS).map_err(|_| anyhow!("no fabric"))
 }
 
 fn table(heap: Global, fabric: &Fabric) -> anyhow::Result<Table> {
-    match Table::new(heap, fabric, &CHANNELS, &LANES) {
-        Ok(table) => Ok(table),
-        Err(_) => Err(anyhow!("no table")),
-    }
+    Table::new(heap, fabric, &CHANNELS, &LANES).map_err(|_| anyhow!("no table"))
 }
 
 // What the check says of the rule, with the order of the lane after a yes.
@@ -75,43 +69,7 @@ fn report_check<R: RouteRule>(rt: &HostRuntime, fabric: &Fabric, rule: &R) -> an
     let mut cycle = [0u8; 8];
     match check(fabric, 1, rule, &mut order, &mut cycle) {
         Ok(_) => println!(rt; "accepted, order {order:?}")?,
-        Err(fault) => report_refusal(rt, fault)?,
-    }
-    Ok(())
-}
-
-fn report_refusal(rt: &HostRuntime, fault: RuleFault) -> anyhow::Result<()> {
-    if let Some(number) = fault.number() {
-        println!(rt; "refused {number}")?;
-    }
-    Ok(())
-}
-
-fn report_outcome(rt: &HostRuntime, outcome: Outcome) -> anyhow::Result<()> {
-    match outcome {
-        Outcome::Delivered(packet) => {
-            let source = packet.source;
-            let destination = packet.destination;
-            let tag = packet.tag;
-            println!(rt; "delivered {source} {destination} {tag}")?
-        }
-        Outcome::Moved(position) => println!(rt; "moved {position}")?,
-        Outcome::Waits => rt.println("waits")?,
-        Outcome::Idle => rt.println("idle")?,
-    }
-    Ok(())
-}
-
-fn report(rt: &HostRuntime, answer: Answer) -> anyhow::Result<()> {
-    match answer {
-        Answer::Taken => rt.println("taken")?,
-        Answer::Served(outcome) => report_outcome(rt, outcome)?,
-        Answer::Holds(Some(packet)) => {
-            let tag = packet.tag;
-            println!(rt; "holds {tag}")?
-        }
-        Answer::Holds(None) => rt.println("empty")?,
-        Answer::Refused(fault) => report_refusal(rt, fault)?,
+        Err(fault) => println!(rt; "{}", Answer::Refused(fault))?,
     }
     Ok(())
 }
@@ -124,12 +82,11 @@ fn deliver_by<'a, R: RouteRule>(
 ) -> anyhow::Result<()> {
     report_check(rt, fabric, rule)?;
     let mut answers = [Answer::Taken; 9];
-    match Run::replay(fabric, 1, rule, &REQUESTS, &mut answers) {
-        Ok(_) => {}
-        Err(_) => return Err(anyhow!("the run is refused")),
-    }
+    Run::replay(fabric, 1, rule, &REQUESTS, &mut answers).map_err(|_| anyhow!(
+        "the run is refused"
+    ))?;
     for answer in answers {
-        report(rt, answer)?;
+        println!(rt; "{answer}")?;
     }
     Ok(())
 }
