@@ -4,11 +4,10 @@ use Rattle.model.specs.Rules.{Rule, Setup}
 use Rattle.model.specs.Packets.{Packet, bare, Call, Request, make, look, look_sender, Reply, said}
 use Rattle.model.specs.State.{State, each}
 use Rattle.model.specs.Run.{Step, step}
-use Rattle.model.specs.History.{state_after, grown}
+use Rattle.model.specs.History.{state_after, grown, reply_to}
 use Rattle.model.proofs.Promising.{promise}
 use Rattle.model.proofs.Unseen.{places_unseen_lem}
 use Rattle.run.specs.View.{view}
-use Rattle.run.specs.Sites.{slot_shown, sender_shown}
 use Rattle.run.specs.Runs.{setup_of, Follows, Steps, Obeys, Shows, Keeps}
 use Rattle.run.specs.declared.run.Run.{Run}
 
@@ -31,12 +30,9 @@ module _ {R : Type 0} (maps : R → Rule) (r : Run R) where
             );
       }
 
-  pub shows_slot : (c ℓ : ℕ) (a : Option Reply) → a ≡ Some (slot_shown (setup_of maps r) (view r.board) c ℓ) → Shows maps r (look c ℓ) a
-  shows_slot c ℓ a e = record { shown = λ h f. e ∙ ap (λ (s : State Packet). Some (slot_shown (setup_of maps r) s c ℓ)) f }
-
-  pub shows_sender : (u ℓ : ℕ) (a : Option Reply) → a ≡ Some (sender_shown (setup_of maps r) (view r.board) u ℓ)
-      → Shows maps r (look_sender u ℓ) a
-  shows_sender u ℓ a e = record { shown = λ h f. e ∙ ap (λ (s : State Packet). Some (sender_shown (setup_of maps r) s u ℓ)) f }
+  pub shows : (x : Request) (shown : State Packet → Reply) (a : Option Reply) → ((h : List Call) → shown (each bare (state_after (setup_of maps r) h)) ≡ reply_to (setup_of maps r) h x)
+      → a ≡ Some (shown (view r.board)) → Shows maps r x a
+  shows x shown a same e = record { shown = λ h f. e ∙ ap (λ (s : State Packet). Some (shown s)) f ∙ ap (λ (z : Reply). Some z) (same h) }
 
   pub keeps_call : (x : Request) (c : Call) (r' : Run R) (a a' : Option Reply) → x ≡ make c → a ≡ a' → Obeys maps r c r' a' → Keeps maps r x r' a
   keeps_call x c r' a a' e q o =

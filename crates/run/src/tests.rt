@@ -19,11 +19,10 @@ impl RouteRule for Rows<'_> {
 
     fn channel(&self, switch: u8, destination: u8) -> Option<u8> {
         let at = switch as usize * 4 + destination as usize;
-        if at >= self.channels.len() {
-            return None;
-        }
-        let channel = self.channels[at];
-        if channel < 255 { Some(channel) } else { None }
+        self.channels
+            .get(at)
+            .copied()
+            .filter(|channel| *channel < 255)
     }
 
     fn lane(&self, _source: u8, _destination: u8) -> u8 {
