@@ -1,12 +1,10 @@
 -- What a board shows at the opening and after a change of one slot.
-use Rattle.std.proofs.Common.{◌≡◌, ℕ, Bool, true, false, cond, ◌&&◌, eqb, get_or, replicate, None, refl, sym, ap, ◌∙◌, inl, inr, arith}
+use Rattle.std.proofs.Common.{◌≡◌, ℕ, replicate, None, arith}
 use Rattle.std.specs.Option.{option_map}
-use Rattle.std.proofs.lemmas.Bool.{cases_lt, eqb-true, and_parts}
 use Rattle.std.proofs.lemmas.List.{get_or-replicate, get_or_past, length-replicate}
 use Rattle.model.specs.State.{put, empty}
 use Rattle.run.specs.Words.{packet_of}
 use Rattle.run.specs.View.{cell, empty_slot, view}
-use Rattle.run.specs.declared.by_lane.ByLane.{ByLane}
 
 -- A table that holds the same everywhere.
 pub cell_same : {X : Type 0} (n m i j : ℕ) (d : X) → cell (replicate n (record { items = replicate m d })) i j d ≡ d

@@ -1,7 +1,7 @@
 -- From one step of a run to every history that it follows.
-use Rattle.std.proofs.Common.{◌≡◌, ℕ, [], ◌∷◌, ◌++◌, Some, Option, List, sym, refl, ap, ◌∙◌, subst, subst₂}
+use Rattle.std.proofs.Common.{◌≡◌, [], ◌∷◌, ◌++◌, Some, Option, List, sym, refl, ap, ◌∙◌, subst, subst₂}
 use Rattle.model.specs.Rules.{Rule, Setup}
-use Rattle.model.specs.Packets.{Packet, bare, Call, Request, make, look, look_sender, Reply, said}
+use Rattle.model.specs.Packets.{Packet, bare, Call, Request, make, Reply, said}
 use Rattle.model.specs.State.{State, each}
 use Rattle.model.specs.Run.{Step, step}
 use Rattle.model.specs.History.{state_after, grown, reply_to}

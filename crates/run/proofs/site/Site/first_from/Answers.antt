@@ -1,4 +1,4 @@
-use Rattle.std.proofs.Common.{rules, tests, Some, refl}
+use Rattle.std.proofs.Common.{rules, tests}
 use Rattle.run.specs.View.{view}
 use Rattle.run.specs.Runs.{contending, positions_of}
 use Rattle.run.proofs.Finding.{found}
