@@ -49,7 +49,7 @@ module _ {R : Type 0} (maps : R → Rule) where
 
   -- The code's setup as the model's: that of a run, and that of a site.
   abbrev pub plain_setup : CodeSetup R → Setup
-  plain_setup s = setup_for s.fabric.now s.lanes s.rule.now
+  plain_setup s = setup_for s.fabric.now s.lanes.lanes s.rule.now
 
   abbrev pub setup_of : Run R → Setup
   setup_of r = plain_setup r.setup
@@ -60,7 +60,7 @@ module _ {R : Type 0} (maps : R → Rule) where
   -- The site of a channel and a lane, or the refusal of a number that does not exist.
   abbrev pub Finds : CodeSetup R → ℕ → ℕ → Result (Site R) CallFault → Type 0
   Finds s c ℓ (Ok x) = (x.setup.now ≡ s) × (x.slot.channel ≡ c) × (x.slot.lane ≡ ℓ)
-  Finds s c ℓ (Err e) = ((nat_lt c (count (net s.fabric.now)) && nat_lt ℓ s.lanes) ≡ false) × (call_refusal e ≡ Some missing_number)
+  Finds s c ℓ (Err e) = ((nat_lt c (count (net s.fabric.now)) && nat_lt ℓ s.lanes.lanes) ≡ false) × (call_refusal e ≡ Some missing_number)
 
   -- The run shows what the reference run shows after this history: every slot, mark and sender slot.
   abbrev pub Follows : Run R → List Call → Type 0

@@ -22,7 +22,7 @@ outcome_text Idle = codes "idle"
 -- A refusal by its number; want of memory has none.
 abbrev pub refusal_text : Option ℕ → List ℕ
 refusal_text (Some n) = codes "refused " ++ decimal n
-refusal_text None = codes "no memory"
+refusal_text None = codes "there is no memory"
 
 abbrev pub answer_text : Answer → List ℕ
 answer_text Taken = codes "taken"

@@ -6,7 +6,7 @@ use crate::board::Board;
 use crate::packet::Packet;
 use crate::setup::Setup;
 use crate::words::Outcome;
-use fabric::{CallFault, Fabric};
+use fabric::{CallFault, Fabric, LaneCount};
 use routing::{RouteRule, RuleFault};
 
 mod replays;
@@ -24,10 +24,7 @@ impl<'a, R: RouteRule> Run<'a, R> {
     pub fn open(fabric: &'a Fabric, lanes: u32, rule: &'a R) -> Result<Run<'a, R>, CallFault>
         ensures { Opened R.maps fabric.now lanes rule.now result }
     {
-        if lanes < 1 || lanes > 8 {
-            return Err(CallFault::LaneCount);
-        }
-        let lanes = lanes as u8;
+        let lanes = LaneCount::try_from(lanes)?;
         Ok(Run {
             setup: Setup {
                 fabric,

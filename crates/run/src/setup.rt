@@ -1,6 +1,4 @@
-ghost use Rattle.std.specs.Prelude.{◌≤◌};
-
-use fabric::Fabric;
+use fabric::{Fabric, LaneCount};
 
 mod finds;
 
@@ -8,7 +6,6 @@ mod finds;
 #[derive(Drop)]
 pub struct Setup<'a, R> {
     pub fabric: &'a Fabric,
-    pub lanes: u8,
+    pub lanes: LaneCount,
     pub rule: &'a R,
-    ghost sized: { (1 ≤ lanes) × (lanes ≤ 8) },
 }

@@ -16,7 +16,7 @@ pub struct Site<'a, R> {
     pub sender: SenderPlace,
     pub finish: u8,
     ghost there: { slot.channel < count (net setup.now.fabric.now) },
-    ghost in_lanes: { slot.lane < setup.now.lanes },
+    ghost in_lanes: { slot.lane < setup.now.lanes.lanes },
     ghost leaves: { sender.switch ≡ start_of (net setup.now.fabric.now) slot.channel },
     ghost beside: { sender.lane ≡ slot.lane },
     ghost ends: { finish ≡ finish_of (net setup.now.fabric.now) slot.channel },

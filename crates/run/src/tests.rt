@@ -1,34 +1,11 @@
-ghost use Rattle.std.specs.Prelude.{◌+◌, ◌*◌, length, if◌then◌else◌, Some, None, nat_lt, slice_index};
-ghost use Rattle.model.specs.Rules.{channel_byte};
+ghost use Rattle.std.specs.Prelude.{Some};
 
 use crate::packet::Packet;
 use crate::run::Run;
 use crate::words::{Answer, Call, Outcome, Request};
 use fabric::{CallFault, Fabric};
-use routing::{RouteRule, RuleFault};
+use routing::{RouteRule, Rows, RuleFault};
 use std::test::Fail;
-
-// A list of channels by switch and destination, four to a row; every lane is 0.
-#[derive(Drop)]
-struct Rows<'a> {
-    channels: &'a [u8],
-}
-
-impl RouteRule for Rows<'_> {
-    ghost maps = { λ s. record { next = λ u d. (if nat_lt (u * 4 + d) (length s.channels.now) then channel_byte (slice_index s.channels.now (u * 4 + d)) else None); lane = λ _ _. 0 } };
-
-    fn channel(&self, switch: u8, destination: u8) -> Option<u8> {
-        let at = switch as usize * 4 + destination as usize;
-        self.channels
-            .get(at)
-            .copied()
-            .filter(|channel| *channel < 255)
-    }
-
-    fn lane(&self, _source: u8, _destination: u8) -> u8 {
-        0
-    }
-}
 
 // A rule that fits no fabric.
 #[derive(Drop)]
@@ -51,10 +28,16 @@ const ENDS: [u8; 8] = [0, 1, 1, 2, 2, 3, 3, 0];
 
 const ROWS: [u8; 16] = [255, 0, 0, 7, 1, 255, 2, 1, 3, 3, 255, 4, 6, 5, 5, 255];
 
+const RULE: Rows = Rows {
+    switches: 4,
+    channels: &ROWS,
+    lane: 0,
+};
+
 #[test]
 fn session(rt: HostRuntime) -> Result<(), Fail> {
     let ring = Fabric::new(rt.alloc(), 4, &ENDS)?;
-    let rule = Rows { channels: &ROWS };
+    let rule = RULE;
     let mut run = Run::open(&ring, 1, &rule)?;
     let packet = Packet {
         source: 0,
@@ -79,7 +62,7 @@ fn session(rt: HostRuntime) -> Result<(), Fail> {
 #[test]
 fn numbers_past_every_limit(rt: HostRuntime) -> Result<(), Fail> {
     let ring = Fabric::new(rt.alloc(), 4, &ENDS)?;
-    let rule = Rows { channels: &ROWS };
+    let rule = RULE;
     let mut run = Run::open(&ring, 1, &rule)?;
     for number in [4, 255, 256, 4_294_967_295] {
         assert_eq!(rt;
@@ -117,7 +100,7 @@ fn wild_rule(rt: HostRuntime) -> Result<(), Fail> {
 #[test]
 fn lists_of_requests(rt: HostRuntime) -> Result<(), Fail> {
     let ring = Fabric::new(rt.alloc(), 4, &ENDS)?;
-    let rule = Rows { channels: &ROWS };
+    let rule = RULE;
     let requests = [
         Request::Make(Call::Post(0, 1, 5)),
         Request::Make(Call::Serve(8, 0)),

@@ -66,7 +66,7 @@ impl fmt::Display for Answer {
             Answer::Holds(None) => write!(f, "empty"),
             Answer::Refused(fault) => match fault.number() {
                 Some(number) => write!(f, "refused {number}"),
-                None => write!(f, "no memory"),
+                None => write!(f, "there is no memory"),
             },
         }
     }

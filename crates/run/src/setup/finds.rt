@@ -15,7 +15,7 @@ impl<R: RouteRule> Setup<'_, R> {
     pub fn site(&self, channel: u32, lane: u32) -> Result<Site<'_, R>, CallFault>
         ensures { Finds R.maps self.now channel lane result }
     {
-        if channel >= self.fabric.channel_count() || lane >= self.lanes as u32 {
+        if lane >= self.lanes.get() {
             return Err(CallFault::MissingNumber);
         }
         let ends = self
@@ -40,7 +40,7 @@ impl<R: RouteRule> Setup<'_, R> {
     pub fn sender(&self, switch: u32, lane: u32) -> Result<SenderPlace, CallFault>
         ensures { FindsSender (plain_setup R.maps self.now) switch lane result }
     {
-        if switch >= self.fabric.switch_count() || lane >= self.lanes as u32 {
+        if switch >= self.fabric.switch_count() || lane >= self.lanes.get() {
             return Err(CallFault::MissingNumber);
         }
         Ok(SenderPlace {
@@ -53,13 +53,13 @@ impl<R: RouteRule> Setup<'_, R> {
     pub fn packet(&self, source: u32, destination: u32, tag: u32) -> Result<Packet, CallFault>
         ensures { Packs (plain_setup R.maps self.now) (record { source = source; destination = destination; tag = tag }) result }
     {
-        let switches = self.fabric.switch_count();
-        if source >= switches || destination >= switches || source == destination {
-            return Err(CallFault::MissingNumber);
-        }
+        let pair = self
+            .fabric
+            .pair(source, destination)
+            .ok_or(CallFault::MissingNumber)?;
         Ok(Packet {
-            source: source as u8,
-            destination: destination as u8,
+            source: pair.source,
+            destination: pair.destination,
             tag,
         })
     }
@@ -70,7 +70,7 @@ impl<R: RouteRule> Setup<'_, R> {
         ensures { FindsSenderFor (plain_setup R.maps self.now) (packet_of packet) result }
     {
         let lane = self.rule.lane(packet.source, packet.destination);
-        if lane >= self.lanes {
+        if lane as u32 >= self.lanes.get() {
             return Err(RuleFault::Laneless(packet.source, packet.destination));
         }
         Ok(SenderPlace {
