@@ -1,15 +1,13 @@
 #![tactic(auto)]
 
-ghost use Rattle.std.specs.Prelude.{◌+◌, ◌*◌, length, if◌then◌else◌, None, nat_lt, slice_index};
+ghost use Rattle.std.specs.Prelude.{◌+◌, ◌*◌, slice_index_or};
 ghost use Rattle.model.specs.Rules.{channel_byte};
 
-use anyhow::anyhow;
 use fabric::Fabric;
 use lane_check::check;
 use routing::RouteRule;
 use routing::table::Table;
 use run::{Answer, Call, Request, Run};
-use std::alloc::Global;
 
 // Channels by switch and destination, four to a row; every lane is 0. The program's own rule, to show that any caller's rule serves.
 #[derive(Drop)]
@@ -18,7 +16,7 @@ struct Rows<'a> {
 }
 
 impl RouteRule for Rows<'_> {
-    ghost maps = { λ s. record { next = λ u d. (if nat_lt (u * 4 + d) (length s.channels.now) then channel_byte (slice_index s.channels.now (u * 4 + d)) else None); lane = λ _ _. 0 } };
+    ghost maps = { λ s. record { next = λ u d. channel_byte (slice_index_or s.channels.now (u * 4 + d) 255); lane = λ _ _. 0 } };
 
     fn channel(&self, switch: u8, destination: u8) -> Option<u8> {
         let at = switch as usize * 4 + destination as usize;
@@ -54,14 +52,6 @@ const REQUESTS: [Request; 9] = [
     Request::Make(Call::Serve(2, 0)),
 ];
 
-fn ring(heap: Global) -> anyhow::Result<Fabric> {
-    Fabric::new(heap, 4, &ENDS).map_err(|_| anyhow!("no fabric"))
-}
-
-fn table(heap: Global, fabric: &Fabric) -> anyhow::Result<Table> {
-    Table::new(heap, fabric, &CHANNELS, &LANES).map_err(|_| anyhow!("no table"))
-}
-
 // What the check says of the rule, with the order of the lane after a yes.
 fn report_check<R: RouteRule>(rt: &HostRuntime, fabric: &Fabric, rule: &R) -> anyhow::Result<()> {
     let mut order = [0u8; 8];
@@ -81,9 +71,7 @@ fn deliver_by<'a, R: RouteRule>(
 ) -> anyhow::Result<()> {
     report_check(rt, fabric, rule)?;
     let mut answers = [Answer::Taken; 9];
-    Run::replay(fabric, 1, rule, &REQUESTS, &mut answers).map_err(|_| anyhow!(
-        "the run is refused"
-    ))?;
+    Run::replay(fabric, 1, rule, &REQUESTS, &mut answers)?;
     for answer in answers {
         println!(rt; "{answer}")?;
     }
@@ -91,18 +79,14 @@ fn deliver_by<'a, R: RouteRule>(
 }
 
 // The same packet by a stored table and by a rule that borrows its channels.
-fn deliver(rt: &HostRuntime) -> anyhow::Result<()> {
-    let fabric = ring(rt.alloc())?;
-    let rule = table(rt.alloc(), &fabric)?;
+fn main(rt: HostRuntime) -> anyhow::Result<()> {
+    let fabric = Fabric::new(rt.alloc(), 4, &ENDS)?;
+    let table = Table::new(rt.alloc(), &fabric, &CHANNELS, &LANES)?;
     rt.println("by a stored table")?;
-    deliver_by(rt, &fabric, &rule)?;
+    deliver_by(&rt, &fabric, &table)?;
     rt.println("by borrowed rows")?;
     let rows = Rows {
         channels: &CHANNELS,
     };
-    deliver_by(rt, &fabric, &rows)
-}
-
-fn main(rt: HostRuntime) -> anyhow::Result<()> {
-    deliver(&rt)
+    deliver_by(&rt, &fabric, &rows)
 }

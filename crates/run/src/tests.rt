@@ -37,8 +37,7 @@ const RULE: Rows = Rows {
 #[test]
 fn session(rt: HostRuntime) -> Result<(), Fail> {
     let ring = Fabric::new(rt.alloc(), 4, &ENDS)?;
-    let rule = RULE;
-    let mut run = Run::open(&ring, 1, &rule)?;
+    let mut run = Run::open(&ring, 1, &RULE)?;
     let packet = Packet {
         source: 0,
         destination: 2,
@@ -62,8 +61,7 @@ fn session(rt: HostRuntime) -> Result<(), Fail> {
 #[test]
 fn numbers_past_every_limit(rt: HostRuntime) -> Result<(), Fail> {
     let ring = Fabric::new(rt.alloc(), 4, &ENDS)?;
-    let rule = RULE;
-    let mut run = Run::open(&ring, 1, &rule)?;
+    let mut run = Run::open(&ring, 1, &RULE)?;
     for number in [4, 255, 256, 4_294_967_295] {
         assert_eq!(rt;
             run.post(number, 0, 1),
@@ -100,14 +98,13 @@ fn wild_rule(rt: HostRuntime) -> Result<(), Fail> {
 #[test]
 fn lists_of_requests(rt: HostRuntime) -> Result<(), Fail> {
     let ring = Fabric::new(rt.alloc(), 4, &ENDS)?;
-    let rule = RULE;
     let requests = [
         Request::Make(Call::Post(0, 1, 5)),
         Request::Make(Call::Serve(8, 0)),
         Request::Make(Call::Serve(0, 0)),
     ];
     let mut answers = [Answer::Taken; 4];
-    let run = Run::replay(&ring, 1, &rule, &requests, &mut answers)?;
+    let run = Run::replay(&ring, 1, &RULE, &requests, &mut answers)?;
     assert_eq!(rt;
         run.look(0, 0),
         Ok(Some(Packet {
