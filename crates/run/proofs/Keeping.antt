@@ -22,11 +22,11 @@ module _ {R : Type 0} (maps : R → Rule) (r : Run R) where
         same = s.same;
         kept = λ h f.
             let u = places_unseen_lem g h c in (
-              s.state
+              s.did.state
                   ∙ ap (λ (z : State Packet). (plain_step g z c).state) f
                   ∙ u.0
                   ∙ ap (λ (z : Setup). each bare (state_after z (h ++ c ∷ []))) (sym s.same),
-              s.says ∙ ap (λ (z : State Packet). Some (said (λ p. p) (plain_step g z c).event)) f ∙ ap (λ (z : Reply). Some z) u.1,
+              s.did.says ∙ ap (λ (z : State Packet). Some (said (λ p. p) (plain_step g z c).event)) f ∙ ap (λ (z : Reply). Some z) u.1,
             );
       }
 

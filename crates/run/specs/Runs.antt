@@ -31,9 +31,9 @@ abbrev pub short_list : Refusal
 short_list = refuse call_layer 13 []
 
 -- A board did what the rules of a setup say of this call, and answered that.
-pub record Does (g : Setup) (b : Board) (c : Call) (b' : Board) (a : Reply) : Type 0 where
+pub record Does (g : Setup) (b : Board) (c : Call) (b' : Board) (a : Option Reply) : Type 0 where
   pub state : view b' ≡ (step (λ p. p) (λ p. p) g (view b) c).state
-  pub says : a ≡ said (λ p. p) (step (λ p. p) (λ p. p) g (view b) c).event
+  pub says : a ≡ Some (said (λ p. p) (step (λ p. p) (λ p. p) g (view b) c).event)
 
 -- Position p of the site's channel, and how many positions the channel has.
 abbrev pub position_of : {R : Type 0} → Site R → ℕ → Option Position
@@ -70,11 +70,10 @@ module _ {R : Type 0} (maps : R → Rule) where
   abbrev pub contending : Site R → State Packet → ℕ → Bool
   contending x s = contends (λ p. p) (λ p. p) (setup_at x) s x.slot.channel x.slot.lane
 
-  -- The run did what the rules say of this call, and answered that.
+  -- The same of a run, whose setup stays.
   pub record Steps (r : Run R) (c : Call) (r' : Run R) (a : Option Reply) : Type 0 where
     pub same : setup_of r' ≡ setup_of r
-    pub state : view r'.board ≡ (step (λ p. p) (λ p. p) (setup_of r) (view r.board) c).state
-    pub says : a ≡ Some (said (λ p. p) (step (λ p. p) (λ p. p) (setup_of r) (view r.board) c).event)
+    pub did : Does (setup_of r) r.board c r'.board a
 
   -- After any history that the run follows, it follows that history and the call, and answers as the reference run.
   pub record Obeys (r : Run R) (c : Call) (r' : Run R) (a : Option Reply) : Type 0 where

@@ -1,4 +1,4 @@
-ghost use Rattle.std.specs.Prelude.{◌≡◌};
+ghost use Rattle.std.specs.Prelude.{Some};
 ghost use Rattle.model.specs.Packets.{serve, said};
 ghost use Rattle.model.specs.Run.{step};
 ghost use Rattle.run.specs.Words.{outcome_reply};
@@ -14,7 +14,7 @@ impl<R: RouteRule> Site<'_, R> {
     // Delivers the front of the slot if it has arrived; else, where there is room, grants the first position that contends; else the
     // slot waits.
     pub fn serve(&self, board: &mut Board) -> Outcome
-        ensures { Does (setup_at R.maps self.now) board.old (serve self.now.slot.channel self.now.slot.lane) board.new (outcome_reply result) }
+        ensures { Does (setup_at R.maps self.now) board.old (serve self.now.slot.channel self.now.slot.lane) board.new (Some (outcome_reply result)) }
     {
         match board.slot(self.slot).held {
             Some(packet) if packet.destination == self.finish => {
