@@ -1,12 +1,11 @@
 -- What a run promises, for any rule: its maps come first.
-use Rattle.std.specs.Prelude.{◌≡◌, ℕ, ◌<◌, ◌≤◌, Bool, false, ◌&&◌, ◌⊎◌, List, [], ◌∷◌, ◌++◌, map, length, take, drop, Some, Ok, Err, Option, Result, nat_lt}
+use Rattle.std.specs.Prelude.{◌≡◌, ℕ, ◌<◌, ◌≤◌, Bool, ◌⊎◌, List, [], ◌∷◌, ◌++◌, map, length, take, drop, Some, Ok, Err, Option, Result}
 use Rattle.model.specs.Refusals.{Refusal, refuse, call_layer}
-use Rattle.model.specs.Net.{count}
 use Rattle.model.specs.Rules.{Rule, Setup}
 use Rattle.model.specs.Packets.{Packet, bare, Call, Request, Reply, said}
 use Rattle.model.specs.State.{State, each}
 use Rattle.model.specs.Positions.{Position, position_count, position_at}
-use Rattle.model.specs.Run.{step, contends, missing_number}
+use Rattle.model.specs.Run.{step, contends}
 use Rattle.model.specs.History.{state_after, reply, grown, reply_to, asked, replies}
 use Rattle.model.specs.Promise.{Law}
 use Rattle.model.specs.Verdicts.{Accepts}
@@ -56,11 +55,6 @@ module _ {R : Type 0} (maps : R → Rule) where
 
   abbrev pub setup_at : Site R → Setup
   setup_at x = plain_setup x.setup.now
-
-  -- The site of a channel and a lane, or the refusal of a number that does not exist.
-  abbrev pub Finds : CodeSetup R → ℕ → ℕ → Result (Site R) CallFault → Type 0
-  Finds s c ℓ (Ok x) = (x.setup.now ≡ s) × (x.slot.channel ≡ c) × (x.slot.lane ≡ ℓ)
-  Finds s c ℓ (Err e) = ((nat_lt c (count (net s.fabric.now)) && nat_lt ℓ s.lanes.lanes) ≡ false) × (call_refusal e ≡ Some missing_number)
 
   -- The run shows what the reference run shows after this history: every slot, mark and sender slot.
   abbrev pub Follows : Run R → List Call → Type 0

@@ -6,14 +6,22 @@ use Rattle.model.specs.Packets.{Packet, Reply, says_holds, says_refused}
 use Rattle.model.specs.State.{State, with_sender, front}
 use Rattle.model.specs.Run.{lane_for, missing_number, laneless_pair, sender_taken}
 use Rattle.fabric.specs.Faults.{call_refusal}
+use Rattle.fabric.specs.Of.{net}
 use Rattle.fabric.specs.declared.fault.CallFault.{CallFault}
 use Rattle.routing.specs.Faults.{rule_refusal}
 use Rattle.routing.specs.declared.fault.RuleFault.{RuleFault}
 use Rattle.run.specs.Words.{packet_of}
 use Rattle.run.specs.declared.packet.Packet.{Packet as CodePacket}
 use Rattle.run.specs.declared.place.SenderPlace.{SenderPlace}
+use Rattle.run.specs.declared.setup.Setup.{Setup as CodeSetup}
+use Rattle.run.specs.declared.site.Site.{Site}
 
--- A sender slot of a switch and a lane, or the refusal of a number that does not exist.
+-- The site of a channel and a lane, or the refusal of a number that does not exist.
+abbrev pub Finds : {R : Type 0} → CodeSetup R → ℕ → ℕ → Result (Site R) CallFault → Type 0
+Finds s c ℓ (Ok x) = (x.setup.now ≡ s) × (x.slot.channel ≡ c) × (x.slot.lane ≡ ℓ)
+Finds s c ℓ (Err e) = ((nat_lt c (count (net s.fabric.now)) && nat_lt ℓ s.lanes.lanes) ≡ false) × (call_refusal e ≡ Some missing_number)
+
+-- The sender slot of a switch and a lane, or the refusal of a number that does not exist.
 abbrev pub FindsSender : Setup → ℕ → ℕ → Result SenderPlace CallFault → Type 0
 FindsSender g u ℓ (Ok x) = (u < g.net.switches) × (ℓ < g.lanes) × (x.switch ≡ u) × (x.lane ≡ ℓ)
 FindsSender g u ℓ (Err e) = ((nat_lt u g.net.switches && nat_lt ℓ g.lanes) ≡ false) × (call_refusal e ≡ Some missing_number)

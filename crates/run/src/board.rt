@@ -39,24 +39,28 @@ impl Board {
         }
     }
 
+    // What stands in a slot.
     pub fn slot(&self, at: SlotPlace) -> Slot
         ensures { result ≡ slot_at self.now at.channel at.lane }
     {
         self.slots[at.channel as usize].get(at.lane)
     }
 
+    // What stands in a sender slot.
     pub fn sender(&self, at: SenderPlace) -> Option<Packet>
         ensures { result ≡ sender_at self.now at.switch at.lane }
     {
         self.senders[at.switch as usize].get(at.lane)
     }
 
+    // Puts a packet, or none, and a turn mark into a slot.
     pub fn set(&mut self, at: SlotPlace, slot: Slot)
         ensures { view self.new ≡ with_mark (with_slot (view self.old) at.channel at.lane (option_map packet_of slot.held)) at.channel at.lane slot.mark }
     {
         self.slots[at.channel as usize].put(at.lane, slot);
     }
 
+    // Puts a packet, or none, into a slot, and leaves its turn mark.
     pub fn hold(&mut self, at: SlotPlace, held: Option<Packet>)
         ensures { view self.new ≡ with_slot (view self.old) at.channel at.lane (option_map packet_of held) }
     {
@@ -64,6 +68,7 @@ impl Board {
         self.set(at, Slot { held, mark });
     }
 
+    // Puts a packet, or none, into a sender slot.
     pub fn load(&mut self, at: SenderPlace, held: Option<Packet>)
         ensures { view self.new ≡ with_sender (view self.old) at.switch at.lane (option_map packet_of held) }
     {

@@ -46,7 +46,8 @@ impl<'a, R: RouteRule> Run<'a, R> {
         Ok(())
     }
 
-    // Serves a slot once.
+    // Delivers the front of a slot that has arrived; else, where there is room, grants the first position that contends; else the slot
+    // waits.
     pub fn serve(&mut self, channel: u32, lane: u32) -> Result<Outcome, CallFault>
         ensures { Obeys R.maps self.old (serve channel lane) self.new (serve_reply result) }
     {

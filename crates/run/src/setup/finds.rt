@@ -1,7 +1,7 @@
 ghost use Rattle.std.specs.Prelude.{◌<◌};
 ghost use Rattle.run.specs.Words.{packet_of};
-ghost use Rattle.run.specs.Sites.{FindsSender, FindsSenderFor, Packs};
-ghost use Rattle.run.specs.Runs.{plain_setup, Finds};
+ghost use Rattle.run.specs.Sites.{Finds, FindsSender, FindsSenderFor, Packs};
+ghost use Rattle.run.specs.Runs.{plain_setup};
 
 use crate::packet::Packet;
 use crate::place::{SenderPlace, SlotPlace};
@@ -13,7 +13,7 @@ use routing::{RouteRule, RuleFault};
 impl<R: RouteRule> Setup<'_, R> {
     // The site of a channel and a lane.
     pub fn site(&self, channel: u32, lane: u32) -> Result<Site<'_, R>, CallFault>
-        ensures { Finds R.maps self.now channel lane result }
+        ensures { Finds self.now channel lane result }
     {
         if lane >= self.lanes.get() {
             return Err(CallFault::MissingNumber);

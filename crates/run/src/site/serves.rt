@@ -11,8 +11,7 @@ use crate::words::Outcome;
 use routing::RouteRule;
 
 impl<R: RouteRule> Site<'_, R> {
-    // Delivers the front of the slot if it has arrived; else, where there is room, grants the first position that contends; else the
-    // slot waits.
+    // One serve of the slot.
     pub fn serve(&self, board: &mut Board) -> Outcome
         ensures { Does (setup_at R.maps self.now) board.old (serve self.now.slot.channel self.now.slot.lane) board.new (Some (outcome_reply result)) }
     {
