@@ -4,21 +4,22 @@ ghost use Rattle.planfile.specs.Faults.{file_refusal};
 ghost use Rattle.planfile.specs.declared.fault.FileFault.TheVariants.{Fabric, Rule, Memory};
 ghost use Rattle.routing.specs.declared.fault.RuleFault.TheVariants.{Call};
 
+use crate::part::Part;
 use fabric::{CallFault, FabricFault};
 use routing::RuleFault;
 use std::alloc::AllocError;
 
-// What is wrong with a plan file. Entries are LINK 0, HOPS 1 and LANE 2, and so are their bodies.
+// What is wrong with a plan file.
 #[derive(Clone, Copy, PartialEq, Eq, Debug)]
 pub enum FileFault {
     // The file is under 25 or over 4,096 bytes, its byte 0 is not 3, or its length is not 25 plus the three lengths.
     Form,
-    // This entry has the wrong tag.
-    Tag(u8),
-    // This entry has the wrong offset or length.
-    Place(u8),
-    // A byte on the diagonal is not 255: the body, and the byte in it, counted from 0.
-    Diagonal(u8, u16),
+    // The entry of this part has the wrong tag.
+    Tag(Part),
+    // The entry of this part has the wrong offset or length.
+    Place(Part),
+    // A byte on the diagonal is not 255: the part, and the byte in its body, counted from 0.
+    Diagonal(Part, u16),
     // What is wrong with the cabling.
     Fabric(FabricFault),
     // What is wrong with the route rule.

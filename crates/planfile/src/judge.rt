@@ -7,6 +7,7 @@ use crate::bodies::{Bodies, Tables};
 use crate::contents::{Contents, contents_of};
 use crate::fault::FileFault;
 use crate::links::read_links;
+use crate::part::Part;
 
 // The contents, and refusals 15 and 16.
 fn open(bytes: &[u8]) -> Result<Contents, FileFault>
@@ -14,13 +15,13 @@ fn open(bytes: &[u8]) -> Result<Contents, FileFault>
 {
     let contents = contents_of(bytes)?;
     if contents.link.tag != *b"LINK" {
-        return Err(FileFault::Tag(0));
+        return Err(FileFault::Tag(Part::Link));
     }
     if contents.hops.tag != *b"HOPS" {
-        return Err(FileFault::Tag(1));
+        return Err(FileFault::Tag(Part::Hops));
     }
     if contents.lane.tag != *b"LANE" {
-        return Err(FileFault::Tag(2));
+        return Err(FileFault::Tag(Part::Lane));
     }
     Ok(contents)
 }
@@ -53,10 +54,10 @@ fn read_tables(bytes: &[u8], contents: Contents, switches: u8) -> Result<Tables,
 {
     let cells = switches as usize * switches as usize;
     if !hops_placed(contents, cells) {
-        return Err(FileFault::Place(1));
+        return Err(FileFault::Place(Part::Hops));
     }
     if !lane_placed(contents, cells) {
-        return Err(FileFault::Place(2));
+        return Err(FileFault::Place(Part::Lane));
     }
     let hops_at = 25 + contents.link.length as usize;
     let lane_at = hops_at + cells;
@@ -89,10 +90,10 @@ pub fn judge(bytes: &[u8]) -> Result<Bodies, FileFault>
     let tables = read_tables(bytes, contents, links.switches)?;
     let width = links.switches as u16;
     if let Some(i) = first_marred(tables.hops, links.switches) {
-        return Err(FileFault::Diagonal(1, i as u16 * width + i as u16));
+        return Err(FileFault::Diagonal(Part::Hops, i as u16 * width + i as u16));
     }
     if let Some(i) = first_marred(tables.lanes, links.switches) {
-        return Err(FileFault::Diagonal(2, 1 + (i as u16 * width + i as u16)));
+        return Err(FileFault::Diagonal(Part::Lane, 1 + (i as u16 * width + i as u16)));
     }
     Ok(Bodies {
         switches: links.switches,

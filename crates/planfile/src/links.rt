@@ -9,6 +9,7 @@ ghost use Rattle.planfile.specs.Refused.{Opened, tag_of};
 
 use crate::entry::Entry;
 use crate::fault::FileFault;
+use crate::part::Part;
 use fabric::Fabric;
 use fabric::network::judge as judge_cabling;
 
@@ -26,7 +27,7 @@ pub fn read_links(bytes: &[u8], link: Entry) -> Result<Links, FileFault>
     ensures { LinksIn bytes.now result }
 {
     if link.offset != 25 || link.length < 3 || link.length > 129 || link.length % 2 != 1 {
-        return Err(FileFault::Place(0));
+        return Err(FileFault::Place(Part::Link));
     }
     let switches = bytes[25];
     let ends = &bytes[26..25 + link.length as usize];

@@ -1,5 +1,6 @@
 use crate::contents::contents_of;
 use crate::fault::FileFault;
+use crate::part::Part;
 use crate::{decode, recode, write_and_decode};
 use fabric::{CallFault, FabricFault};
 use routing::RuleFault;
@@ -102,7 +103,7 @@ fn short_list(rt: HostRuntime) {
 
 #[test]
 fn refusals(rt: HostRuntime) {
-    assert_eq!(rt; changed(rt.alloc(), 9, b'L'), Some(FileFault::Tag(1)));
+    assert_eq!(rt; changed(rt.alloc(), 9, b'L'), Some(FileFault::Tag(Part::Hops)));
     assert_eq!(rt;
         changed(rt.alloc(), 25, 1),
         Some(FileFault::Fabric(FabricFault::SwitchCount))
@@ -111,12 +112,12 @@ fn refusals(rt: HostRuntime) {
         changed(rt.alloc(), 29, 9),
         Some(FileFault::Fabric(FabricFault::MissingEnd(1)))
     );
-    assert_eq!(rt; changed(rt.alloc(), 14, 35), Some(FileFault::Place(1)));
-    assert_eq!(rt; changed(rt.alloc(), 22, 51), Some(FileFault::Place(2)));
-    assert_eq!(rt; changed(rt.alloc(), 34, 0), Some(FileFault::Diagonal(1, 0)));
+    assert_eq!(rt; changed(rt.alloc(), 14, 35), Some(FileFault::Place(Part::Hops)));
+    assert_eq!(rt; changed(rt.alloc(), 22, 51), Some(FileFault::Place(Part::Lane)));
+    assert_eq!(rt; changed(rt.alloc(), 34, 0), Some(FileFault::Diagonal(Part::Hops, 0)));
     assert_eq!(rt;
         changed(rt.alloc(), 66, 0),
-        Some(FileFault::Diagonal(2, 16))
+        Some(FileFault::Diagonal(Part::Lane, 16))
     );
 }
 
@@ -131,7 +132,7 @@ fn even_length(rt: HostRuntime) -> Result<(), Fail> {
             Ok(())
         },
         Err(fault) => {
-            assert_eq!(rt; fault, FileFault::Place(0));
+            assert_eq!(rt; fault, FileFault::Place(Part::Link));
             Ok(())
         },
     }
@@ -139,7 +140,7 @@ fn even_length(rt: HostRuntime) -> Result<(), Fail> {
 
 #[test]
 fn numbers(rt: HostRuntime) {
-    assert_eq!(rt; FileFault::Diagonal(2, 16).number(), Some(18));
+    assert_eq!(rt; FileFault::Diagonal(Part::Lane, 16).number(), Some(18));
     assert_eq!(rt; FileFault::Fabric(FabricFault::EndList).number(), Some(2));
     assert_eq!(rt; FileFault::Memory.number(), None);
 }
