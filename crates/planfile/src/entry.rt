@@ -10,35 +10,28 @@ pub struct Entry {
     pub length: u16,
 }
 
-// A tag, then offset and length, high byte first.
-fn lay_out(tag: [u8; 4], offset: u16, length: u16) -> [u8; 8]
-    ensures { result ≡ entry_bytes tag offset length }
-{
-    let [t0, t1, t2, t3] = tag;
-    let [o0, o1] = [(offset / 256) as u8, (offset % 256) as u8];
-    let [l0, l1] = [(length / 256) as u8, (length % 256) as u8];
-    [t0, t1, t2, t3, o0, o1, l0, l1]
-}
-
 impl Entry {
     // Takes the eight bytes of an entry apart; none for any other count of bytes.
     pub fn read(bytes: &[u8]) -> Option<Entry>
         ensures { Taken bytes.now result }
     {
-        match bytes {
-            [t0, t1, t2, t3, o0, o1, l0, l1] => Some(Entry {
-                tag: [*t0, *t1, *t2, *t3],
-                offset: *o0 as u16 * 256 + *o1 as u16,
-                length: *l0 as u16 * 256 + *l1 as u16,
-            }),
-            _ => None,
-        }
+        let &[t0, t1, t2, t3, o0, o1, l0, l1] = bytes else {
+            return None;
+        };
+        Some(Entry {
+            tag: [t0, t1, t2, t3],
+            offset: u16::from_be_bytes([o0, o1]),
+            length: u16::from_be_bytes([l0, l1]),
+        })
     }
 
-    // The eight bytes of an entry.
+    // The eight bytes of an entry: the tag, then offset and length, high byte first.
     pub fn write(self) -> [u8; 8]
         ensures { result ≡ entry_bytes self.tag self.offset self.length }
     {
-        lay_out(self.tag, self.offset, self.length)
+        let [t0, t1, t2, t3] = self.tag;
+        let [o0, o1] = self.offset.to_be_bytes();
+        let [l0, l1] = self.length.to_be_bytes();
+        [t0, t1, t2, t3, o0, o1, l0, l1]
     }
 }
