@@ -1,6 +1,12 @@
-ghost use Rattle.std.specs.Prelude.{◌≡◌};
+ghost use Rattle.std.specs.Prelude.{◌≡◌, ◌≢◌, ◌+◌, ◌≤◌, length, take, drop, OnOk, IfErr};
 ghost use Rattle.planfile.specs.Contents.{Taken};
+ghost use Rattle.planfile.specs.Faults.{part_number};
 ghost use Rattle.planfile.specs.File.{entry_bytes};
+ghost use Rattle.planfile.specs.Refused.{tag_of};
+ghost use Rattle.planfile.specs.declared.fault.FileFault.TheVariants.{Tag};
+
+use crate::fault::FileFault;
+use crate::part::Part;
 
 // An entry of the contents: what a body is, where it begins and how long it is.
 #[derive(Clone, Copy, PartialEq, Eq, Debug)]
@@ -33,5 +39,32 @@ impl Entry {
         let [o0, o1] = self.offset.to_be_bytes();
         let [l0, l1] = self.length.to_be_bytes();
         [t0, t1, t2, t3, o0, o1, l0, l1]
+    }
+
+    // Refusal 16: this entry has another tag than that of the part.
+    pub(crate) fn check_tag(self, part: Part) -> Result<(), FileFault>
+        ensures ok { OnOk result (self.tag ≡ tag_of (part_number part)) }
+        ensures err { IfErr result (λ f. (f ≡ Tag part) × (self.tag ≢ tag_of (part_number part))) }
+    {
+        if self.tag == part.tag() {
+            Ok(())
+        } else {
+            Err(FileFault::Tag(part))
+        }
+    }
+
+    // Where the body ends.
+    pub(crate) fn end(self) -> usize
+        ensures { result ≡ self.offset + self.length }
+    {
+        self.offset as usize + self.length as usize
+    }
+
+    // The body in the bytes of its file.
+    pub(crate) fn body(self, bytes: &[u8]) -> &[u8]
+        requires { self.offset + self.length ≤ length bytes.now }
+        ensures { result.now ≡ take self.length (drop self.offset bytes.now) }
+    {
+        &bytes[self.offset as usize..self.end()]
     }
 }

@@ -29,8 +29,8 @@ pub fn read_links(bytes: &[u8], link: Entry) -> Result<Links, FileFault>
     if link.offset != 25 || link.length < 3 || link.length > 129 || link.length % 2 != 1 {
         return Err(FileFault::Place(Part::Link));
     }
-    let switches = bytes[25];
-    let ends = &bytes[26..25 + link.length as usize];
+    let body = link.body(bytes);
+    let (switches, ends) = (body[0], &body[1..]);
     judge_cabling(switches as u32, ends)?;
     Ok(Links { switches, ends })
 }

@@ -103,7 +103,10 @@ fn short_list(rt: HostRuntime) {
 
 #[test]
 fn refusals(rt: HostRuntime) {
-    assert_eq!(rt; changed(rt.alloc(), 9, b'L'), Some(FileFault::Tag(Part::Hops)));
+    assert_eq!(rt;
+        changed(rt.alloc(), 9, b'L'),
+        Some(FileFault::Tag(Part::Hops))
+    );
     assert_eq!(rt;
         changed(rt.alloc(), 25, 1),
         Some(FileFault::Fabric(FabricFault::SwitchCount))
@@ -112,9 +115,18 @@ fn refusals(rt: HostRuntime) {
         changed(rt.alloc(), 29, 9),
         Some(FileFault::Fabric(FabricFault::MissingEnd(1)))
     );
-    assert_eq!(rt; changed(rt.alloc(), 14, 35), Some(FileFault::Place(Part::Hops)));
-    assert_eq!(rt; changed(rt.alloc(), 22, 51), Some(FileFault::Place(Part::Lane)));
-    assert_eq!(rt; changed(rt.alloc(), 34, 0), Some(FileFault::Diagonal(Part::Hops, 0)));
+    assert_eq!(rt;
+        changed(rt.alloc(), 14, 35),
+        Some(FileFault::Place(Part::Hops))
+    );
+    assert_eq!(rt;
+        changed(rt.alloc(), 22, 51),
+        Some(FileFault::Place(Part::Lane))
+    );
+    assert_eq!(rt;
+        changed(rt.alloc(), 34, 0),
+        Some(FileFault::Diagonal(Part::Hops, 0))
+    );
     assert_eq!(rt;
         changed(rt.alloc(), 66, 0),
         Some(FileFault::Diagonal(Part::Lane, 16))

@@ -13,11 +13,11 @@ fn make(heap: Global, bytes: &[u8]) -> Result<Plan, FileFault>
     ensures { Decodes bytes.now result }
 {
     let bodies = judge(bytes)?;
-    let fabric = Fabric::new(heap, bodies.switches as u32, bodies.ends)?;
-    let table = Table::new(heap, &fabric, bodies.hops, bodies.lanes)?;
+    let fabric = Fabric::new(heap, bodies.links.switches as u32, bodies.links.ends)?;
+    let table = Table::new(heap, &fabric, bodies.tables.hops, bodies.tables.lanes)?;
     Ok(Plan {
         fabric,
-        lanes: bodies.lane_count,
+        lanes: bodies.tables.lane_count,
         table,
     })
 }

@@ -28,7 +28,7 @@ returns-in_err-table c =
     let p = err_from_is_err_and c.from_residual-in_err-table.result c.from_residual-in_err-table.ensures.1 in
     let n : (net c.in_ok-fabric.fabric).switches ≡ switches_in bs = ap (λ (z : Net). z.switches) f.1 ∙ b.1.switches in
     rw (p.1, p.2) (starved bs (Rule c.in_err-table.field-0.0) b.0
-    (c.in_err-table.ensures ∙ lists_pass bs _ _ _ b.0 n b.1.hops b.1.lanes))
+    (c.in_err-table.ensures ∙ lists_pass bs _ _ _ b.0 n b.2.hops b.2.lanes))
 
 pub returns : goal.returns
 returns c =
@@ -36,4 +36,4 @@ returns c =
     let b = c.in_ok-bodies.ensures in
     let f = c.in_ok-fabric.ensures in
     let t = c.in_ok-table.ensures in
-    (b.0, decoded bs _ _ _ _ _ _ _ (λ i. omega (arith, c.type_inv.bytes i)) b.0 b.1.switches b.1.ends b.1.hops b.1.lanes b.1.count f.1 t.1)
+    (b.0, decoded bs _ _ _ _ _ _ _ (λ i. omega (arith, c.type_inv.bytes i)) b.0 b.1.switches b.1.ends b.2.hops b.2.lanes b.2.count f.1 t.1)
