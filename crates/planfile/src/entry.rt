@@ -1,4 +1,4 @@
-ghost use Rattle.std.specs.Prelude.{◌≡◌, ◌≢◌, ◌+◌, ◌≤◌, length, take, drop, OnOk, IfErr};
+ghost use Rattle.std.specs.Prelude.{◌≡◌, ◌≢◌, ◌+◌, ◌<◌, ◌≤◌, length, take, drop, OnOk, IfErr};
 ghost use Rattle.planfile.specs.Contents.{Taken};
 ghost use Rattle.planfile.specs.Faults.{part_number};
 ghost use Rattle.planfile.specs.File.{entry_bytes};
@@ -66,5 +66,19 @@ impl Entry {
         ensures { result.now ≡ take self.length (drop self.offset bytes.now) }
     {
         &bytes[self.offset as usize..self.end()]
+    }
+
+    // The entry of a part whose body has this length and follows this one's.
+    pub(crate) fn followed_by(self, part: Part, length: u16) -> Entry
+        requires { self.offset + self.length < 65536 }
+        ensures tag { result.tag ≡ tag_of (part_number part) }
+        ensures offset { result.offset ≡ self.offset + self.length }
+        ensures long { result.length ≡ length }
+    {
+        Entry {
+            tag: part.tag(),
+            offset: self.offset + self.length,
+            length,
+        }
     }
 }

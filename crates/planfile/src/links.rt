@@ -5,7 +5,7 @@ ghost use Rattle.model.specs.Net.{count, start_of};
 ghost use Rattle.planfile.specs.Contents.{EntryFrom, entry_at};
 ghost use Rattle.planfile.specs.File.{link_body};
 ghost use Rattle.planfile.specs.Judges.{LinksIn};
-ghost use Rattle.planfile.specs.Refused.{Opened, tag_of};
+ghost use Rattle.planfile.specs.Refused.{Opened};
 
 use crate::entry::Entry;
 use crate::fault::FileFault;
@@ -55,18 +55,11 @@ fn write_ends(fabric: &Fabric, out: &mut [u8])
     }
 }
 
-// Writes the body, and answers the entry.
-pub fn write_links(fabric: &Fabric, body: &mut [u8]) -> Entry
+// Writes the body.
+pub fn write_links(fabric: &Fabric, body: &mut [u8])
     requires { length body.old ≡ 1 + count (net fabric.now) }
-    ensures entry { (result.tag ≡ tag_of 0) × (result.offset ≡ 25) × (result.length ≡ 1 + count (net fabric.now)) }
-    ensures body { body.new ≡ link_body (net fabric.now) }
+    ensures { body.new ≡ link_body (net fabric.now) }
 {
-    let ends = fabric.channel_count();
     body[0] = fabric.switch_count() as u8;
-    write_ends(fabric, &mut body[1..1 + ends as usize]);
-    Entry {
-        tag: *b"LINK",
-        offset: 25,
-        length: 1 + ends as u16,
-    }
+    write_ends(fabric, &mut body[1..]);
 }
