@@ -1,5 +1,5 @@
 -- A file, written part after part over a list.
-use Rattle.std.proofs.Common.{◌≡◌, ℕ, ◌+◌, ◌-◌, ◌*◌, ◌<◌, ◌≤◌, List, [], ◌∷◌, ◌++◌, length, get_or, take, drop, set, Some, None, sym, refl, ap, ◌∙◌, arith}
+use Rattle.std.proofs.Common.{◌≡◌, ℕ, ◌+◌, ◌-◌, ◌*◌, ◌<◌, ◌≤◌, List, [], ◌∷◌, ◌++◌, length, get_or, drop, set, Some, None, refl, ap, ◌∙◌, arith}
 use borrow.Rule.Slice.PartMut.{put_mid}
 use Rattle.std.proofs.lemmas.List.{take_at, drop_at, drop-drop, drop_more, set_at, append_assoc, length-append, length-map}
 use Rattle.std.proofs.lemmas.Bool.{le-ltb, lt-ltb}
@@ -14,17 +14,19 @@ use Rattle.planfile.proofs.Rows.{length_rows}
 -- one more part is written after a front
 front_put : (old new f ys : List ℕ) (a k e : ℕ) → new ≡ f ++ drop a old → length f ≡ a → a + k ≡ e → put_mid a k new ys ≡ (f ++ ys) ++ drop e old
 front_put old new f ys a k e q l n =
-    let t : take a new ≡ f = ap (λ (z : List ℕ). take a z) q ∙ take_at f (drop a old) a l in
-    let d : drop k (drop a new) ≡ drop e old =
-    ap (λ (z : List ℕ). drop k (drop a z)) q ∙ ap (λ (z : List ℕ). drop k z) (drop_at f (drop a old) a l) ∙ drop-drop k a old
-    ∙ ap (λ (z : ℕ). drop z old) n in
-    ap (λ (z : List ℕ). z ++ (ys ++ drop k (drop a new))) t ∙ ap (λ (z : List ℕ). f ++ (ys ++ z)) d ∙ sym (append_assoc f ys (drop e old))
+    let t = take_at f (drop a old) a l in
+    let d = drop_at f (drop a old) a l in
+    let r = drop-drop k a old in
+    let s = append_assoc f ys (drop e old) in
+    cc
 
 -- one more byte
 front_set : (old new f : List ℕ) (y a : ℕ) → new ≡ f ++ drop a old → length f ≡ a → a < length old → set new a y ≡ (f ++ y ∷ []) ++ drop (a + 1) old
 front_set old new f y a q l h =
-    ap (λ (z : List ℕ). set z a y) (q ∙ ap (λ (z : List ℕ). f ++ z) (drop_more old a 0 h))
-    ∙ set_at f (get_or old a 0) (drop (a + 1) old) y a l ∙ sym (append_assoc f (y ∷ []) (drop (a + 1) old))
+    let m = drop_more old a 0 h in
+    let t = set_at f (get_or old a 0) (drop (a + 1) old) y a l in
+    let s = append_assoc f (y ∷ []) (drop (a + 1) old) in
+    cc
 
 -- the writes of a file, one after the other
 pub written : (old h b x y : List ℕ) (m ends s : ℕ) → length h ≡ 25 → length b ≡ 1 + ends → length x ≡ s → 26 + ends + s + 1 + s ≤ length old

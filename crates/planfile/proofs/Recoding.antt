@@ -1,5 +1,5 @@
 -- Decoding what was written.
-use Rattle.std.proofs.Common.{◌≡◌, ℕ, ◌-◌, List, ◌++◌, length, take, drop, Some, Ok, Err, Option, Result, sym, ap, ◌∙◌, subst, arith, MatchOption}
+use Rattle.std.proofs.Common.{◌≡◌, ℕ, ◌-◌, List, ◌++◌, length, take, drop, Some, Ok, Err, Option, Result, sym, subst, arith, MatchOption}
 use Rattle.std.proofs.lemmas.List.{take_at}
 use Rattle.fabric.specs.Of.{net}
 use Rattle.fabric.specs.declared.network.Fabric.{Fabric}
@@ -15,11 +15,12 @@ use Rattle.planfile.specs.declared.plan.Plan.{Plan}
 pub front_is : (file old new : List ℕ) (k : ℕ) → k ≡ length file → new ≡ file ++ drop k old → take (k - 0) new ≡ file
 front_is file old new k l q =
     let e : k - 0 ≡ k = omega arith in
-    ap (λ (z : ℕ). take z new) e ∙ ap (λ (z : List ℕ). take k z) q ∙ take_at file (drop k old) k (sym l)
+    let front = take_at file (drop k old) k (sym l) in
+    cc
 
 -- and what follows it is the list from there on
 pub at_length : (file old new : List ℕ) (k : ℕ) → k ≡ length file → new ≡ file ++ drop k old → new ≡ file ++ drop (length file) old
-at_length file old new k l q = q ∙ ap (λ (z : ℕ). file ++ drop z old) l
+at_length file old new k l q = cc
 
 pub kept : (f : Fabric) (lanes : ℕ) (rule : Rule) (bs old new : List ℕ) (r : Result Plan FileFault) → Named (net f).switches rule → bs ≡ file_bytes (net f) lanes rule
     → Written (net f) lanes rule old new → Back bs r → Keeps (net f) lanes rule old new r

@@ -1,5 +1,5 @@
 -- A written file, part by part.
-use Rattle.std.proofs.Common.{◌≡◌, ℕ, zero, suc, ◌+◌, ◌-◌, ◌*◌, ◌%◌, ◌<◌, ◌≤◌, ltb, List, [], ◌∷◌, ◌++◌, length, get_or, take, drop, IfSome, Some, None, unwrap_or, Ok, Err, vec_items, Option, Result, sym, refl, ap, ◌∙◌, subst, arith, MatchOption}
+use Rattle.std.proofs.Common.{◌≡◌, ◌==◌, ℕ, zero, suc, ◌+◌, ◌-◌, ◌*◌, ◌%◌, ◌<◌, ◌≤◌, ltb, List, [], ◌∷◌, ◌++◌, length, get_or, take, drop, IfSome, Some, None, unwrap_or, Ok, Err, vec_items, Option, Result, sym, refl, ap, ◌∙◌, subst, arith, MatchOption}
 use Rattle.std.proofs.lemmas.Nat.{mul-le}
 use Rattle.std.proofs.lemmas.List.{take_at, take_all, drop_at, drop-drop, length-map, get_or-drop}
 use Rattle.std.proofs.lemmas.Bool.{cond_both, cond-false, cond-true, eq-eqb, le-ltb, lt-leb, ltb-true, ne_eqb}
@@ -176,9 +176,11 @@ table_named k n xs ys u d hu hd ne =
 -- equal tables have equal cells
 cells_same : (n n' : ℕ) (f f' : ℕ → ℕ → ℕ) → n ≡ n' → rows n f ≡ rows n' f' → (u d : ℕ) → u < n → d < n → (u ≡ d → ⊥) → f u d ≡ f' u d
 cells_same n n' f f' en e u d hu hd ne =
-    let p : u * n + d ≡ u * n' + d = ap (λ (z : ℕ). u * z + d) en in
-    sym (cond-false _ _ _ (ne_eqb u d ne)) ∙ sym (rows_at n f u d hu hd) ∙ ap (λ (z : List ℕ). get_or z (u * n + d) 0) e
-    ∙ ap (λ (z : ℕ). get_or (rows n' f') z 0) p ∙ rows_at n' f' u d (omega arith) (omega arith) ∙ cond-false _ _ _ (ne_eqb u d ne)
+    let at = rows_at n f u d hu hd in
+    let at' = rows_at n' f' u d (omega arith) (omega arith) in
+    let here = cond-false (u == d) 255 (f u d) (ne_eqb u d ne) in
+    let here' = cond-false (u == d) 255 (f' u d) (ne_eqb u d ne) in
+    cc
 
 -- two plans of one file are the same
 pub same_file : (f f' : Fabric) (m m' : ℕ) (rule rule' : Rule) → Named (net f).switches rule → Named (net f).switches rule'
