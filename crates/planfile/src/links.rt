@@ -1,4 +1,4 @@
-ghost use Rattle.std.specs.Prelude.{◌≡◌, ◌+◌, length};
+ghost use Rattle.std.specs.Prelude.{◌≡◌, ◌↔◌, ◌+◌, ◌%◌, ◌≤◌, length, IsTrue};
 ghost use Rattle.fabric.specs.Channels.{starts};
 ghost use Rattle.fabric.specs.Of.{net};
 ghost use Rattle.model.specs.Net.{count, start_of};
@@ -20,13 +20,20 @@ pub struct Links<'a> {
     pub ends: &'a [u8],
 }
 
+// LINK is the first body, and has the switch count and 1 to 64 links of two ends each.
+fn link_placed(link: Entry) -> bool
+    ensures { IsTrue result ↔ ((link.offset ≡ 25) × (3 ≤ link.length) × (link.length ≤ 129) × (link.length % 2 ≡ 1)) }
+{
+    link.offset == 25 && link.length >= 3 && link.length <= 129 && link.length % 2 == 1
+}
+
 // Reads them, with refusals 17 of LINK, 1, 3 and 4.
 pub fn read_links(bytes: &[u8], link: Entry) -> Result<Links, FileFault>
     requires opened { Opened bytes.now }
     requires there { EntryFrom bytes.now (entry_at 0) link }
     ensures { LinksIn bytes.now result }
 {
-    if link.offset != 25 || link.length < 3 || link.length > 129 || link.length % 2 != 1 {
+    if !link_placed(link) {
         return Err(FileFault::Place(Part::Link));
     }
     let body = link.body(bytes);
