@@ -1,7 +1,10 @@
 -- Link ends, one link after the other: their refusals, their channels, and where those lie.
-use Rattle.std.proofs.Common.{◌≡◌, ℕ, zero, suc, ◌+◌, ◌*◌, ◌/◌, ◌%◌, ◌<◌, ◌≤◌, Bool, true, false, cond, ◌||◌, eqb, ltb, leb, ◌⊎◌, List, [], ◌∷◌, ◌++◌, map, length, get_or, drop, Some, None, Option, sym, refl, ap, ◌∙◌, inl, inr, arith, length-drop, MatchOption}
-use Rattle.std.proofs.lemmas.List.{drop_more, append_assoc, append-nil, map-append}
-use Rattle.std.proofs.lemmas.Bool.{or_parts, or_right, leb-false, le-leb, lt-leb, eqb-false, eq-eqb, ne_eqb, cond-true}
+use Rattle.std.proofs.Common.{◌≡◌, ℕ, zero, suc, ◌+◌, ◌/◌, ◌%◌, ◌<◌, ◌≤◌, Bool, true, false, cond, ◌||◌, eqb, ltb, leb, List, [], ◌∷◌, ◌++◌, map, length, get_or, drop, Some, None, Option, sym, refl, ap, subst, ◌∙◌, arith, MatchOption}
+use Rattle.std.specs.List.{flat_map}
+use Rattle.std.specs.Simd.{first_chunks}
+use Rattle.std.proofs.lemmas.Bool.Decides.{nat_tests}
+use Rattle.std.proofs.lemmas.List.{drop_more, drop_all, length-map}
+use Rattle.std.proofs.lemmas.Bool.{or_parts, leb-false, eqb-false}
 use Rattle.model.specs.Net.{Channel, channels_of}
 use Rattle.model.specs.Refusals.{Refusal}
 use Rattle.model.specs.Cabling.{link_refusal, cabling_refusal, bad_switch_count, bad_end_list, missing_end, equal_ends, Cabled, Refused}
@@ -11,76 +14,53 @@ use Rattle.fabric.specs.Faults.{fabric_refusal}
 use Rattle.fabric.specs.declared.channel.Channel.{Channel as CodeChannel}
 use Rattle.fabric.specs.declared.fault.FabricFault.{FabricFault}
 
--- the ends from link i on
-ends_more : (ends : List ℕ) (i : ℕ) → 2 * i + 1 < length ends → drop (2 * i) ends ≡ get_or ends (2 * i) 0 ∷ (get_or ends (2 * i + 1) 0 ∷ drop (2 * (i + 1)) ends)
-ends_more ends i h =
-    let first : 2 * i < length ends = omega arith in
-    let next : 2 * i + 1 + 1 ≡ 2 * (i + 1) = omega arith in
-    drop_more ends (2 * i) 0 first
-    ∙ ap (λ (z : List ℕ). get_or ends (2 * i) 0 ∷ z)
-    (drop_more ends (2 * i + 1) 0 h ∙ ap (λ (k : ℕ). get_or ends (2 * i + 1) 0 ∷ drop k ends) next)
+-- the ends of each link
+abbrev pub links_of : List ℕ → List (List ℕ)
+links_of ends = first_chunks 2 (length ends / 2) ends
 
--- of at most one end there is no link
-short_links : (n i : ℕ) (rest : List ℕ) → length rest ≤ 1 → (link_refusal n i rest ≡ None) × (channels_of rest ≡ [])
-short_links n i [] h = (refl, refl)
-short_links n i (a ∷ []) h = (refl, refl)
-short_links n i (a ∷ (b ∷ rest)) h = absurd (omega arith)
+-- the refusal of links, the first of which is number i
+abbrev pub refusal_from : ℕ → ℕ → List (List ℕ) → Option Refusal
+refusal_from n i [] = None
+refusal_from n i (link ∷ links) =
+    cond (leb n (get_or link 0 0) || leb n (get_or link 1 0)) (Some (missing_end i))
+    (cond (eqb (get_or link 0 0) (get_or link 1 0)) (Some (equal_ends i)) (refusal_from n (i + 1) links))
 
-no_links : (n i : ℕ) (ends : List ℕ) → length ends / 2 ≤ i → (link_refusal n i (drop (2 * i) ends) ≡ None) × (channels_of (drop (2 * i) ends) ≡ [])
-no_links n i ends h = short_links n i (drop (2 * i) ends) (omega (arith, length-drop (2 * i) ends))
+one_link_more : (a b : ℕ) (ends : List ℕ) → links_of (a ∷ (b ∷ ends)) ≡ (a ∷ (b ∷ [])) ∷ links_of ends
+one_link_more a b ends =
+    let half : length (a ∷ (b ∷ ends)) / 2 ≡ suc (length ends / 2) = omega arith in
+    ap (λ (k : ℕ). first_chunks 2 k (a ∷ (b ∷ ends))) half
 
--- the refusal of the links from i on, by link i
-link_refusal_lem : (n i : ℕ) (ends : List ℕ) → 2 * i + 1 < length ends
-    → link_refusal n i (drop (2 * i) ends)
-    ≡ cond (leb n (get_or ends (2 * i) 0) || leb n (get_or ends (2 * i + 1) 0)) (Some (missing_end i))
-    (cond (eqb (get_or ends (2 * i) 0) (get_or ends (2 * i + 1) 0)) (Some (equal_ends i)) (link_refusal n (i + 1) (drop (2 * (i + 1)) ends)))
-link_refusal_lem n i ends h = ap (λ (z : List ℕ). link_refusal n i z) (ends_more ends i h)
+pub refusal_is : (n i : ℕ) (ends : List ℕ) → link_refusal n i ends ≡ refusal_from n i (links_of ends)
+refusal_is n i [] = refl
+refusal_is n i (a ∷ []) = refl
+refusal_is n i (a ∷ (b ∷ ends)) =
+    ap (λ (o : Option Refusal). cond (leb n a || leb n b) (Some (missing_end i)) (cond (eqb a b) (Some (equal_ends i)) o)) (refusal_is n (i + 1) ends)
+    ∙ sym (ap (refusal_from n i) (one_link_more a b ends))
 
--- link i is at fault, or not
-pub link_missing : (n i : ℕ) (ends : List ℕ) → 2 * i + 1 < length ends → (n ≤ get_or ends (2 * i) 0) ⊎ (n ≤ get_or ends (2 * i + 1) 0)
-    → link_refusal n i (drop (2 * i) ends) ≡ Some (missing_end i)
-link_missing n i ends h (inl l) = link_refusal_lem n i ends h ∙ simp (le-leb n (get_or ends (2 * i) 0) l)
-link_missing n i ends h (inr l) = link_refusal_lem n i ends h ∙ cond-true _ _ _ (or_right (leb n (get_or ends (2 * i) 0)) (leb n (get_or ends (2 * i + 1) 0)) (le-leb n (get_or ends (2 * i + 1) 0) l))
+pub refusal_more : (n i : ℕ) (links : List (List ℕ)) → i < length links
+    → refusal_from n i (drop i links)
+    ≡ cond (leb n (get_or (get_or links i []) 0 0) || leb n (get_or (get_or links i []) 1 0)) (Some (missing_end i))
+    (cond (eqb (get_or (get_or links i []) 0 0) (get_or (get_or links i []) 1 0)) (Some (equal_ends i)) (refusal_from n (i + 1) (drop (i + 1) links)))
+refusal_more n i links h = ap (refusal_from n i) (drop_more links i [] h)
 
-pub link_equal : (n i : ℕ) (ends : List ℕ) → 2 * i + 1 < length ends → get_or ends (2 * i) 0 < n → get_or ends (2 * i + 1) 0 < n
-    → get_or ends (2 * i) 0 ≡ get_or ends (2 * i + 1) 0 → link_refusal n i (drop (2 * i) ends) ≡ Some (equal_ends i)
-link_equal n i ends h a b e =
-    link_refusal_lem n i ends h ∙ simp (lt-leb n (get_or ends (2 * i) 0) a, lt-leb n (get_or ends (2 * i + 1) 0) b, eq-eqb (get_or ends (2 * i) 0) (get_or ends (2 * i + 1) 0) e)
+pub refusal_end : (n i : ℕ) (links : List (List ℕ)) → length links ≤ i → refusal_from n i (drop i links) ≡ None
+refusal_end n i links h = ap (refusal_from n i) (drop_all i links h)
 
-pub link_fits : (n i : ℕ) (ends : List ℕ) → 2 * i + 1 < length ends → get_or ends (2 * i) 0 < n → get_or ends (2 * i + 1) 0 < n
-    → (get_or ends (2 * i) 0 ≡ get_or ends (2 * i + 1) 0 → ⊥) → link_refusal n i (drop (2 * i) ends) ≡ link_refusal n (i + 1) (drop (2 * (i + 1)) ends)
-link_fits n i ends h a b e =
-    link_refusal_lem n i ends h ∙ simp (lt-leb n (get_or ends (2 * i) 0) a, lt-leb n (get_or ends (2 * i + 1) 0) b, ne_eqb (get_or ends (2 * i) 0) (get_or ends (2 * i + 1) 0) e)
+pub ruleset link_tests = (refusal_is, refusal_more, refusal_end, nat_tests)
 
-pub link_refusal_end : (n i : ℕ) (ends : List ℕ) → length ends / 2 ≤ i → link_refusal n i (drop (2 * i) ends) ≡ None
-link_refusal_end n i ends h = (no_links n i ends h).0
+-- the two channels of a link
+abbrev pub both : List ℕ → List Channel
+both link = record { start = get_or link 0 0; finish = get_or link 1 0 } ∷ (record { start = get_or link 1 0; finish = get_or link 0 0 } ∷ [])
 
--- the two channels of link i
-abbrev pub there : List ℕ → ℕ → CodeChannel
-there ends i = record { start = get_or ends (2 * i) 0; finish = get_or ends (2 * i + 1) 0 }
-
-abbrev pub back : List ℕ → ℕ → CodeChannel
-back ends i = record { start = get_or ends (2 * i + 1) 0; finish = get_or ends (2 * i) 0 }
-
-pub channels_more : (ends : List ℕ) (i : ℕ) (cs cs' : List CodeChannel) → 2 * i + 1 < length ends → cs' ≡ (cs ++ there ends i ∷ []) ++ back ends i ∷ []
-    → channels_of ends ≡ map plain cs ++ channels_of (drop (2 * i) ends) → channels_of ends ≡ map plain cs' ++ channels_of (drop (2 * (i + 1)) ends)
-channels_more ends i cs cs' h e q =
-    let rest : List Channel = channels_of (drop (2 * (i + 1)) ends) in
-    let two : List Channel = plain (there ends i) ∷ (plain (back ends i) ∷ []) in
-    let m : channels_of (drop (2 * i) ends) ≡ two ++ rest = ap (λ (z : List ℕ). channels_of z) (ends_more ends i h) in
-    let p : map plain cs' ≡ map plain cs ++ two =
-    ap (λ (z : List CodeChannel). map plain z) (e ∙ append_assoc cs (there ends i ∷ []) (back ends i ∷ []))
-    ∙ map-append plain cs (there ends i ∷ (back ends i ∷ [])) in
-    q ∙ ap (λ (z : List Channel). map plain cs ++ z) m ∙ sym (ap (λ (z : List Channel). z ++ rest) p ∙ append_assoc (map plain cs) two rest)
-
-pub channels_end : (ends : List ℕ) (i : ℕ) (cs : List CodeChannel) → length ends / 2 ≤ i
-    → channels_of ends ≡ map plain cs ++ channels_of (drop (2 * i) ends) → map plain cs ≡ channels_of ends
-channels_end ends i cs h q =
-    sym (q ∙ ap (λ (z : List Channel). map plain cs ++ z) (no_links 0 i ends h).1 ∙ append-nil (map plain cs))
+pub channels_are : (ends : List ℕ) → channels_of ends ≡ flat_map both (links_of ends)
+channels_are [] = refl
+channels_are (a ∷ []) = refl
+channels_are (a ∷ (b ∷ ends)) =
+    ap (λ (z : List Channel). both (a ∷ (b ∷ [])) ++ z) (channels_are ends) ∙ sym (ap (flat_map both) (one_link_more a b ends))
 
 -- where nothing is refused
 not_refused : (b : Bool) (r : Refusal) (o : Option Refusal) → cond b (Some r) o ≡ None → (b ≡ false) × (o ≡ None)
-not_refused true r o h = let z : ◌≡◌ {A = ℕ} 0 1 = cc in absurd (omega arith)
+not_refused true r o h = cc
 not_refused false r o h = (refl, h)
 
 pub cabled : (n : ℕ) (ends : List ℕ) → cabling_refusal n ends ≡ None → Cabled n ends
@@ -88,7 +68,7 @@ cabled n ends h = by (cabling_refusal n ends) h (cabling_exact_lem n ends)
   where
     by : (o : Option Refusal) → o ≡ None → MatchOption o (Cabled n ends) (λ r. Refused n ends r) → Cabled n ends
     by None e c = c
-    by (Some r) e c = let z : ◌≡◌ {A = ℕ} 0 1 = cc in absurd (omega arith)
+    by (Some r) e c = cc
 
 links_pass : (n : ℕ) (ends : List ℕ) → cabling_refusal n ends ≡ None → link_refusal n 0 ends ≡ None
 links_pass n ends h =
@@ -117,11 +97,11 @@ links_inside n i (a ∷ (b ∷ ends)) h = at (links_inside n (i + 1) ends inner.
     at rest (suc zero) l = (b_in, a_in, λ e. eqb-false a b inner.0 (sym e))
     at rest (suc (suc c)) l = rest c (omega arith)
 
-pub inside : (n : ℕ) (ends : List ℕ) → cabling_refusal n ends ≡ None → Inside n (channels_of ends)
+inside : (n : ℕ) (ends : List ℕ) → cabling_refusal n ends ≡ None → Inside n (channels_of ends)
 inside n ends h = links_inside n 0 ends (links_pass n ends h)
 
 -- two channels a link
-pub channel_count_lem : (ends : List ℕ) → length ends % 2 ≡ 0 → length (channels_of ends) ≡ length ends
+channel_count_lem : (ends : List ℕ) → length ends % 2 ≡ 0 → length (channels_of ends) ≡ length ends
 channel_count_lem [] h = refl
 channel_count_lem (a ∷ []) h = absurd (omega arith)
 channel_count_lem (a ∷ (b ∷ ends)) h = omega (arith, channel_count_lem ends (omega arith))
@@ -132,7 +112,7 @@ starts_of [] h = refl
 starts_of (a ∷ []) h = absurd (omega arith)
 starts_of (a ∷ (b ∷ ends)) h = ap (λ (z : List ℕ). a ∷ (b ∷ z)) (starts_of ends (omega arith))
 
-pub linked : (ends : List ℕ) → length ends % 2 ≡ 0 → Linked (channels_of ends)
+linked : (ends : List ℕ) → length ends % 2 ≡ 0 → Linked (channels_of ends)
 linked ends h =
     let e : channels_of (starts (channels_of ends)) ≡ channels_of ends = ap (λ (z : List ℕ). channels_of z) (starts_of ends h) in
     (ap (λ (z : List Channel). starts z) e, ap (λ (z : List Channel). finishes z) e)
@@ -140,8 +120,8 @@ linked ends h =
 -- channels that start and end alike are the same
 same_channels : (cs ds : List Channel) → starts cs ≡ starts ds → finishes cs ≡ finishes ds → cs ≡ ds
 same_channels [] [] p q = refl
-same_channels [] (d ∷ ds) p q = let z : ◌≡◌ {A = ℕ} 0 1 = cc in absurd (omega arith)
-same_channels (c ∷ cs) [] p q = let z : ◌≡◌ {A = ℕ} 0 1 = cc in absurd (omega arith)
+same_channels [] (d ∷ ds) p q = cc
+same_channels (c ∷ cs) [] p q = cc
 same_channels (c ∷ cs) (d ∷ ds) p q =
     let a : c.start ≡ d.start = cc in
     let b : c.finish ≡ d.finish = cc in
@@ -161,3 +141,19 @@ found e o h = by (fabric_refusal e) h
     by : (p : Option Refusal) → MatchOption p ⊥ (λ r. o ≡ Some r) → p ≡ o
     by None h = absurd h
     by (Some r) h = sym h
+
+-- what a fabric keeps, of channels that are those of ends that nothing refuses
+pub makes : (n : ℕ) (ends : List ℕ) (cs : List CodeChannel) → cabling_refusal n ends ≡ None → map plain cs ≡ channels_of ends
+    → (2 ≤ n) × (n ≤ 32) × (1 ≤ length cs) × (length cs ≤ 128) × Inside n (map plain cs) × Linked (map plain cs)
+makes n ends cs pass same =
+    let made : Cabled n ends = cabled n ends pass in
+    let size = channel_count_lem ends made.counted.paired in
+    let long = length-map cs plain in
+    let all = ap length same in (
+      made.counted.enough,
+      made.counted.few,
+      omega (arith, made.counted.some),
+      omega (arith, made.counted.short),
+      subst (λ (z : List Channel). Inside n z) (sym same) (inside n ends pass),
+      subst (λ (z : List Channel). Linked z) (sym same) (linked ends made.counted.paired),
+    )

@@ -6,9 +6,8 @@ use crate::fault::FabricFault;
 pub fn grid_size(width: u32, height: u32) -> Result<u32, FabricFault>
     ensures { SizesGrid width height result }
 {
-    let switches = width as u64 * height as u64;
-    if switches < 2 || switches > 32 {
-        return Err(FabricFault::GridSize);
+    match width.checked_mul(height) {
+        Some(switches @ 2..=32) => Ok(switches),
+        _ => Err(FabricFault::GridSize),
     }
-    Ok(switches as u32)
 }

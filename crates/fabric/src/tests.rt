@@ -8,16 +8,13 @@ use std::test::Fail;
 
 // The fault of a cabling, if it has one.
 fn fault(heap: Global, switches: u32, ends: &[u8]) -> Option<FabricFault> {
-    match Fabric::new(heap, switches, ends) {
-        Ok(_) => None,
-        Err(fault) => Some(fault),
-    }
+    Fabric::new(heap, switches, ends).err()
 }
 
 // Links that all join switches 0 and 1.
 fn parallel(ends: &mut [u8]) {
-    for i in 0..ends.len() {
-        ends[i] = (i % 2) as u8;
+    for (i, end) in ends.iter_mut().enumerate() {
+        *end = (i % 2) as u8;
     }
 }
 
@@ -87,6 +84,8 @@ fn ring_of_four(rt: HostRuntime) -> Result<(), Fail> {
         })
     );
     assert_eq!(rt; ring.channel(8), None);
+    assert_eq!(rt; ring.channels().len(), 8);
+    assert_eq!(rt; ring.channels().first().copied(), ring.channel(0));
     assert_eq!(rt; hops(&ring, 0, 2), Some(2));
     assert_eq!(rt; hops(&ring, 3, 0), Some(1));
     assert_eq!(rt; hops(&ring, 2, 2), Some(0));

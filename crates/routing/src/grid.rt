@@ -1,9 +1,11 @@
-ghost use Rattle.std.specs.Prelude.{◌≡◌, ◌+◌, ◌-◌, ◌*◌, ◌/◌, ◌%◌, ◌<◌, ◌≢◌};
+ghost use Rattle.std.specs.Prelude.{◌≡◌, true, ◌+◌, ◌-◌, ◌*◌, ◌/◌, ◌%◌, ◌<◌, ◌≢◌};
 ghost use Rattle.model.specs.Net.{is_pair};
 ghost use Rattle.model.specs.Rules.{grid_hop, grid_rule};
 ghost use Rattle.fabric.specs.Grids.{IsGrid};
+ghost use Rattle.fabric.specs.Pairs.{Finds};
 
 use crate::rule::RouteRule;
+use fabric::Pair;
 
 mod makes;
 
@@ -22,12 +24,15 @@ impl Grid {
         self.width * self.height
     }
 
-    // Whether these are two different switches.
-    fn has_pair(&self, source: u8, destination: u8) -> bool
-        ensures { result ≡ is_pair (self.now.width * self.now.height) source destination }
+    // These two switches as a pair.
+    fn pair(&self, source: u8, destination: u8) -> Option<Pair>
+        ensures { Finds (self.now.width * self.now.height) source destination result }
     {
-        let switches = self.switch_count();
-        source < switches && destination < switches && source != destination
+        Pair::of(
+            self.switch_count(),
+            u32::from(source),
+            u32::from(destination),
+        )
     }
 
     // The link from (x, y) to (x + 1, y).
@@ -49,17 +54,15 @@ impl Grid {
     }
 
     // The channel at one switch for another: along the row first, then along the column.
-    fn toward(&self, switch: u8, destination: u8) -> u8
-        requires from { switch < self.now.width * self.now.height }
-        requires to { destination < self.now.width * self.now.height }
-        requires apart { switch ≢ destination }
-        ensures is { result ≡ grid_hop self.now.width self.now.height (switch % self.now.width) (switch / self.now.width) (destination % self.now.width) (destination / self.now.width) }
+    fn toward(&self, pair: Pair) -> u8
+        requires { is_pair (self.now.width * self.now.height) pair.source pair.destination ≡ true }
+        ensures is { result ≡ grid_hop self.now.width self.now.height (pair.source % self.now.width) (pair.source / self.now.width) (pair.destination % self.now.width) (pair.destination / self.now.width) }
         ensures range { result < 128 }
     {
-        let x = switch % self.width;
-        let y = switch / self.width;
-        let to_x = destination % self.width;
-        let to_y = destination / self.width;
+        let x = pair.source % self.width;
+        let y = pair.source / self.width;
+        let to_x = pair.destination % self.width;
+        let to_y = pair.destination / self.width;
         if x < to_x {
             2 * self.row_link(x, y)
         } else if to_x < x {
@@ -77,18 +80,14 @@ impl RouteRule for Grid {
     ghost maps = { λ g. grid_rule g.width g.height };
 
     fn channel(&self, switch: u8, destination: u8) -> Option<u8> {
-        if self.has_pair(switch, destination) {
-            Some(self.toward(switch, destination))
-        } else {
-            None
-        }
+        let pair = self.pair(switch, destination)?;
+        Some(self.toward(pair))
     }
 
     fn lane(&self, source: u8, destination: u8) -> u8 {
-        if self.has_pair(source, destination) {
-            0
-        } else {
-            255
+        match self.pair(source, destination) {
+            Some(_) => 0,
+            None => 255,
         }
     }
 }

@@ -3,30 +3,32 @@ ghost use Rattle.model.specs.Net.{is_pair};
 ghost use Rattle.model.specs.Rules.{table_rule};
 
 use crate::rule::RouteRule;
+use fabric::Pair;
 
 mod makes;
 
-// Stands in a table for no channel, and for no lane.
+// Stands in a table for no channel, and for no lane: callers hand over tables of bytes, and so does the plan file.
 const NONE: u8 = 255;
 
 // A stored route rule: two lists of n × n bytes by row, channels by switch and destination, lanes by source and destination.
 #[derive(Drop)]
 pub struct Table {
     switches: u8,
+    // Two lists, as callers and the plan file have them: each is copied whole.
     channels: Vec<u8>,
     lanes: Vec<u8>,
     ghost full: { (vec_len channels ≡ switches * switches) × (vec_len lanes ≡ switches * switches) },
 }
 
-// The byte of a pair in a list by row; 255 for equal or missing switches.
-fn cell(bytes: &[u8], switches: u8, row: u8, column: u8) -> u8
-    requires { switches * switches ≤ length bytes.now }
+// The byte of a pair in a list of a row for each switch; 255 for equal or missing switches, and past the list.
+pub fn cell(bytes: &[u8], switches: u8, row: u8, column: u8) -> u8
     ensures { result ≡ (if is_pair switches row column then slice_index_or bytes.now (row * switches + column) 255 else 255) }
 {
-    if row >= switches || column >= switches || row == column {
+    if Pair::of(switches, u32::from(row), u32::from(column)).is_none() {
         return NONE;
     }
-    bytes[row as usize * switches as usize + column as usize]
+    let at = row as usize * switches as usize + column as usize;
+    bytes.get(at).copied().unwrap_or(NONE)
 }
 
 impl RouteRule for Table {

@@ -9,13 +9,13 @@ use crate::network::Fabric;
 use std::alloc::{AllocError, Global};
 
 // Refusals 3 and 4, link by link.
+#[tactic(auto, using(crate::proofs::Cables::link_tests))]
 fn judge_links(switches: u32, ends: &[u8]) -> Result<(), FabricFault>
     requires { length ends.now ≤ 128 }
     ensures { JudgesLinks switches ends.now result }
 {
-    for link in 0..ends.len() / 2 {
-        let a = ends[2 * link];
-        let b = ends[2 * link + 1];
+    let (links, _) = ends.as_chunks::<2>();
+    for (link, &[a, b]) in links.iter().enumerate() {
         if a as u32 >= switches || b as u32 >= switches {
             return Err(FabricFault::MissingEnd(link as u8));
         }
@@ -30,23 +30,23 @@ fn judge_links(switches: u32, ends: &[u8]) -> Result<(), FabricFault>
 pub fn judge(switches: u32, ends: &[u8]) -> Result<(), FabricFault>
     ensures { Judges switches ends.now result }
 {
-    if switches < 2 || switches > 32 {
+    if !(2..=32).contains(&switches) {
         return Err(FabricFault::SwitchCount);
     }
-    if ends.len() % 2 == 1 || ends.len() == 0 || ends.len() > 128 {
+    if ends.len() % 2 == 1 || ends.is_empty() || ends.len() > 128 {
         return Err(FabricFault::EndList);
     }
     judge_links(switches, ends)
 }
 
 // Two channels for each link, one a direction.
+#[tactic(auto, using(crate::proofs::Cables::channels_are, std::proofs::lemmas::Grind::common_steps))]
 fn channels_of(heap: Global, ends: &[u8]) -> Result<Vec<Channel>, AllocError>
     ensures { IfOk result (λ v. map plain v.items ≡ channels_of ends.now) }
 {
+    let (links, _) = ends.as_chunks::<2>();
     let mut channels = Vec::new(heap);
-    for link in 0..ends.len() / 2 {
-        let a = ends[2 * link];
-        let b = ends[2 * link + 1];
+    for &[a, b] in links {
         channels.push(Channel {
             start: a,
             finish: b,
@@ -62,6 +62,7 @@ fn channels_of(heap: Global, ends: &[u8]) -> Result<Vec<Channel>, AllocError>
 impl Fabric {
     // Makes a fabric of a switch count and two bytes a link, its ends. Channel 2i of link i goes from its first end to its
     // second, channel 2i + 1 back.
+    #[tactic(auto, using(crate::proofs::Cables::found, crate::proofs::Cables::makes))]
     pub fn new(heap: Global, switches: u32, ends: &[u8]) -> Result<Fabric, FabricFault>
         ensures { Makes switches ends.now result }
     {

@@ -1,7 +1,8 @@
-use Rattle.std.proofs.Common.{◌≡◌, ◌*◌, ◌++◌, map, drop, vec_items}
-use Rattle.model.specs.Net.{channels_of}
+use Rattle.std.proofs.Common.{◌≡◌, map, take, vec_items}
+use Rattle.std.specs.List.{flat_map}
 use Rattle.fabric.specs.Channels.{plain}
+use Rattle.fabric.proofs.Cables.{both}
 use Rattle.fabric.proofs.network.makes.channels_of.Given as goal
 
-abbrev pub invariant-loop-link : goal.invariant-loop-link
-invariant-loop-link l = channels_of l.ends ≡ map plain (vec_items l.channels) ++ channels_of (drop (2 * l.link) l.ends)
+abbrev pub invariant-loop-a : goal.invariant-loop-a
+invariant-loop-a l = map plain (vec_items l.channels) ≡ flat_map both (take l.a-index l.links)
