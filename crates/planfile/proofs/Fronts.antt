@@ -59,10 +59,10 @@ length_file net lanes rule =
     omega (arith, a, b, s, length_rows net.switches (hop_byte rule), length_rows net.switches rule.lane)
 
 -- the bytes so written are the file's
-pub file_of_parts : (net : Net) (lanes : ℕ) (rule : Rule) (h b x y : List ℕ)
+pub file_of_parts : (net : Net) (lanes : ℕ) (rule : Rule) (h b x y : List ℕ) (m : ℕ)
     → h ≡ head_bytes (length (link_body net)) (length (hops_body net rule)) (length (lane_body net lanes rule))
-    → b ≡ link_body net → x ≡ hops_body net rule → y ≡ rows net.switches rule.lane → h ++ (b ++ (x ++ (lanes ∷ y))) ≡ file_bytes net lanes rule
-file_of_parts net lanes rule h b x y eh eb ex ey = cc
+    → b ≡ link_body net → x ≡ hops_body net rule → m ≡ lanes → y ≡ rows net.switches rule.lane → h ++ (b ++ (x ++ (m ∷ y))) ≡ file_bytes net lanes rule
+file_of_parts net lanes rule h b x y m eh eb ex em ey = cc
 
 -- the refusals of writing
 pub write_passes : (lanes file list : ℕ) → 1 ≤ lanes → lanes ≤ 8 → file ≤ list → write_refusal lanes file list ≡ None

@@ -8,23 +8,26 @@ use crate::part::Part;
 use fabric::{CallFault, FabricFault};
 use routing::RuleFault;
 use std::alloc::AllocError;
+use thiserror::Error;
 
 // What is wrong with a plan file.
-#[derive(Clone, Copy, PartialEq, Eq, Debug)]
+#[derive(Clone, Copy, PartialEq, Eq, Debug, Error)]
 pub enum FileFault {
-    // The file is under 25 or over 4,096 bytes, its byte 0 is not 3, or its length is not 25 plus the three lengths.
+    #[error("the file is under 25 or over 4,096 bytes, byte 0 is not 3, or the length is not 25 plus the three lengths")]
     Form,
-    // The entry of this part has the wrong tag.
+    #[error("the entry of {0} has the wrong tag")]
     Tag(Part),
-    // The entry of this part has the wrong offset or length.
+    #[error("the entry of {0} has the wrong offset or length")]
     Place(Part),
-    // A byte on the diagonal is not 255: the part, and the byte in its body, counted from 0.
+    // The part, and the byte in its body, counted from 0.
+    #[error("byte {1} of {0} lies on the diagonal and is not 255")]
     Diagonal(Part, u16),
-    // What is wrong with the cabling.
+    #[error("{0}")]
     Fabric(FabricFault),
-    // What is wrong with the route rule.
+    #[error("{0}")]
     Rule(RuleFault),
     // There is no memory. That is no refusal, and has no number.
+    #[error("there is no memory")]
     Memory,
 }
 

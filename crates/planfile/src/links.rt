@@ -1,7 +1,7 @@
 ghost use Rattle.std.specs.Prelude.{◌≡◌, ◌↔◌, ◌+◌, ◌%◌, ◌≤◌, length, IsTrue};
 ghost use Rattle.fabric.specs.Channels.{starts};
 ghost use Rattle.fabric.specs.Of.{net};
-ghost use Rattle.model.specs.Net.{count, start_of};
+ghost use Rattle.model.specs.Net.{count};
 ghost use Rattle.planfile.specs.Contents.{EntryFrom, entry_at};
 ghost use Rattle.planfile.specs.File.{link_body};
 ghost use Rattle.planfile.specs.Judges.{LinksIn};
@@ -42,23 +42,14 @@ pub fn read_links(bytes: &[u8], link: Entry) -> Result<Links, FileFault>
     Ok(Links { switches, ends })
 }
 
-// The switch at which a channel starts; 0 for a channel that does not exist.
-fn start_of(fabric: &Fabric, channel: u32) -> u8
-    ensures { result ≡ start_of (net fabric.now) channel }
-{
-    match fabric.channel(channel) {
-        Some(found) => found.start,
-        None => 0,
-    }
-}
-
 // The ends of the links are the starts of the channels.
 fn write_ends(fabric: &Fabric, out: &mut [u8])
     requires { length out.old ≡ count (net fabric.now) }
     ensures { out.new ≡ starts (net fabric.now).channels }
 {
-    for channel in 0..fabric.channel_count() {
-        out[channel as usize] = start_of(fabric, channel);
+    // By their places: what is written through a `zip` of `iter_mut` is not known after the loop.
+    for (at, channel) in fabric.channels().iter().enumerate() {
+        out[at] = channel.start;
     }
 }
 

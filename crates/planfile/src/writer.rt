@@ -7,7 +7,7 @@ use crate::bodies::NONE;
 use crate::entry::Entry;
 use crate::links::write_links;
 use crate::part::Part;
-use fabric::{CallFault, Fabric};
+use fabric::{CallFault, Fabric, LaneCount};
 use routing::RouteRule;
 
 // Byte 0 and the contents, for bodies of these lengths that follow one another.
@@ -57,9 +57,7 @@ pub fn write<R: RouteRule>(
 ) -> Result<usize, CallFault>
     ensures { Writes (net fabric.now) lanes (R.maps rule.now) out.old out.new result }
 {
-    if lanes < 1 || lanes > 8 {
-        return Err(CallFault::LaneCount);
-    }
+    let lanes = LaneCount::try_from(lanes)?;
     let switches = fabric.switch_count() as u8;
     let ends = fabric.channel_count() as u16;
     let cells = switches as u16 * switches as u16;
@@ -74,7 +72,7 @@ pub fn write<R: RouteRule>(
     out[0..25].copy_from_slice(&head(1 + ends, cells, 1 + cells));
     write_links(fabric, &mut out[25..hops_at]);
     write_rows(switches, &mut out[hops_at..lane_at], hop);
-    out[lane_at] = lanes as u8;
+    out[lane_at] = lanes.get() as u8;
     write_rows(switches, &mut out[lane_at + 1..end], lane);
     Ok(end)
 }

@@ -49,9 +49,9 @@ returns g c =
     c.copy_from_slice.ensures.after ∙ c.head.ensures ∙ cc in
     let ex : x ≡ hops_body N rule = rows_back n x (hop_byte rule) (omega arith) hops.long hops.diagonal hop ∙ ap (λ (z : ℕ). rows z (hop_byte rule)) en in
     let ey : y ≡ rows N.switches rule.lane = rows_back n y rule.lane (omega arith) rows_of_lanes.long rows_of_lanes.diagonal lane ∙ ap (λ (z : ℕ). rows z rule.lane) en in
-    let W = written c.args.out.now h b x y lanes ends (n * n) (ap length eh) (ap length c.write_links.ensures ∙ omega arith) hops.long (omega arith) in (
+    let W = written c.args.out.now h b x y c.get.result ends (n * n) (ap length eh) (ap length c.write_links.ensures ∙ omega arith) hops.long (omega arith) in (
       write_passes lanes (length (file_bytes N lanes rule)) (length c.args.out.now) (omega arith) (omega arith) (omega arith),
       omega arith,
-      W ∙ ap (λ (z : List ℕ). z ++ drop (26 + ends + n * n + 1 + n * n) c.args.out.now) (file_of_parts N lanes rule h b x y eh c.write_links.ensures ex ey),
+      W ∙ ap (λ (z : List ℕ). z ++ drop (26 + ends + n * n + 1 + n * n) c.args.out.now) (file_of_parts N lanes rule h b x y c.get.result eh c.write_links.ensures ex (c.get.ensures.is ∙ c.in_ok-lanes.ensures.0) ey),
       subst (λ (z : ℕ). Named z rule) en named,
     )
