@@ -1,6 +1,6 @@
 -- The channels that lead nearer, gathered one after the other.
-use Rattle.std.proofs.Common.{◌≡◌, ℕ, ◌+◌, ◌-◌, ◌<◌, ◌≤◌, Bool, true, false, cond, ◌&&◌, eqb, List, [], ◌∷◌, ◌++◌, length, take, set, Option, sym, ap, ◌∙◌, append_assoc, arith}
-use Rattle.std.proofs.lemmas.List.{take_more_set, append-nil}
+use Rattle.std.proofs.Common.{◌≡◌, ℕ, ◌+◌, ◌-◌, ◌<◌, ◌≤◌, Bool, true, false, cond, ◌&&◌, eqb, List, [], ◌∷◌, ◌++◌, Option, sym, ap, ◌∙◌, append_assoc, arith}
+use Rattle.std.proofs.lemmas.List.{append-nil}
 use Rattle.std.proofs.lemmas.Bool.{le-ltb, lt-ltb, eq-eqb}
 use Rattle.model.specs.Lists.{up_from, keep}
 use Rattle.model.specs.Net.{Net, count, start_of, finish_of}
@@ -22,12 +22,12 @@ module _ (net : Net) (u d : ℕ) where
       ∙ ap (λ (o : Option ℕ). one_more (hops net (finish_of net c) d) o) q
       ∙ sym (ap (by c) (ap (λ (b : Bool). b && eqb (start_of net c) u) (lt-ltb c (count net) h) ∙ eq-eqb (start_of net c) u e))
 
-  -- The first k of the list are the candidates below i.
-  abbrev pub Gathered : ℕ → ℕ → List ℕ → Type 0
-  Gathered k i xs = take k xs ++ keep (is_nearer net u d) (up_from (count net - i) i) ≡ nearer net u d
+  -- The list has the candidates below i.
+  abbrev pub Gathered : ℕ → List ℕ → Type 0
+  Gathered i xs = xs ++ keep (is_nearer net u d) (up_from (count net - i) i) ≡ nearer net u d
 
-  pub gathered_none : (xs : List ℕ) → Gathered 0 0 xs
-  gathered_none xs = ap (λ (m : ℕ). keep (is_nearer net u d) (up_from m 0)) (whole (count net))
+  pub gathered_none : Gathered 0 []
+  gathered_none = ap (λ (m : ℕ). keep (is_nearer net u d) (up_from m 0)) (whole (count net))
     where
       whole : (m : ℕ) → m - 0 ≡ m
       whole m = omega arith
@@ -40,18 +40,12 @@ module _ (net : Net) (u d : ℕ) where
       ap (keep (is_nearer net u d)) (up_from_more (count net - i) (count net - (i + 1)) i (omega arith))
       ∙ ap (λ (t : Bool). cond t (i ∷ rest) rest) e
 
-  pub gathered_yes : (k i : ℕ) (xs : List ℕ) → i < count net → k < length xs → true ≡ is_nearer net u d i → Gathered k i xs
-      → Gathered (k + 1) (i + 1) (set xs k i)
-  gathered_yes k i xs h l e G =
-      let rest = keep (is_nearer net u d) (up_from (count net - (i + 1)) (i + 1)) in
-      ap (λ z. z ++ rest) (take_more_set xs k i l)
-      ∙ append_assoc (take k xs) (i ∷ []) rest
-      ∙ ap (λ z. take k xs ++ z) (sym (on i h true (sym e)))
-      ∙ G
+  pub gathered_yes : (i : ℕ) (xs : List ℕ) → i < count net → true ≡ is_nearer net u d i → Gathered i xs → Gathered (i + 1) (xs ++ i ∷ [])
+  gathered_yes i xs h e G =
+      append_assoc xs (i ∷ []) (keep (is_nearer net u d) (up_from (count net - (i + 1)) (i + 1))) ∙ ap (λ z. xs ++ z) (sym (on i h true (sym e))) ∙ G
 
-  pub gathered_no : (k i : ℕ) (xs : List ℕ) → i < count net → false ≡ is_nearer net u d i → Gathered k i xs → Gathered k (i + 1) xs
-  gathered_no k i xs h e G = ap (λ z. take k xs ++ z) (sym (on i h false (sym e))) ∙ G
+  pub gathered_no : (i : ℕ) (xs : List ℕ) → i < count net → false ≡ is_nearer net u d i → Gathered i xs → Gathered (i + 1) xs
+  gathered_no i xs h e G = ap (λ z. xs ++ z) (sym (on i h false (sym e))) ∙ G
 
-  pub gathered_all : (k i : ℕ) (xs : List ℕ) → count net ≤ i → Gathered k i xs → take k xs ≡ nearer net u d
-  gathered_all k i xs h G =
-      sym (append-nil (take k xs)) ∙ ap (λ z. take k xs ++ keep (is_nearer net u d) z) (sym (up_from_none (count net - i) i (omega arith))) ∙ G
+  pub gathered_all : (i : ℕ) (xs : List ℕ) → count net ≤ i → Gathered i xs → xs ≡ nearer net u d
+  gathered_all i xs h G = sym (append-nil xs) ∙ ap (λ z. xs ++ keep (is_nearer net u d) z) (sym (up_from_none (count net - i) i (omega arith))) ∙ G

@@ -1,4 +1,4 @@
-ghost use Rattle.std.specs.Prelude.{◌≡◌, ◌<◌, ◌≤◌, take};
+ghost use Rattle.std.specs.Prelude.{◌≡◌, ◌<◌};
 ghost use Rattle.model.specs.Planner.{one_more, nearer, chosen, hop_table};
 ghost use Rattle.fabric.specs.Of.{net};
 ghost use Rattle.planner.specs.Drafts.{front};
@@ -6,6 +6,7 @@ ghost use Rattle.planner.specs.Rows.{Measured, is_nearer, toward_byte};
 
 use crate::draft::{Draft, NONE};
 use crate::rows::HopRows;
+use arrayvec::ArrayVec;
 use fabric::Fabric;
 
 // Whether one hop count is one more than the other.
@@ -35,39 +36,27 @@ fn is_nearer(fabric: &Fabric, rows: &HopRows, channel: u32, switch: u32, destina
     one_more(near, rows.hops(switch, destination))
 }
 
-// Writes the channels that leave a switch for one that is one hop nearer to the destination, ascending, to the front of the list, and
-// returns how many there are.
-fn candidates(
-    fabric: &Fabric,
-    rows: &HopRows,
-    switch: u32,
-    destination: u32,
-    list: &mut [u8; 128],
-) -> usize
+// The channels that leave a switch for one that is one hop nearer to the destination, ascending.
+fn candidates(fabric: &Fabric, rows: &HopRows, switch: u32, destination: u32) -> ArrayVec<u8, 128>
     requires here { switch < (net fabric.now).switches }
     requires there { destination < (net fabric.now).switches }
     requires measured { Measured (net fabric.now) rows.now.rows }
-    ensures few { result ≤ 128 }
-    ensures are { take result list.new ≡ nearer (net fabric.now) switch destination }
+    ensures { result.items ≡ nearer (net fabric.now) switch destination }
 {
-    let mut count = 0;
+    let mut list = ArrayVec::new();
     for channel in 0..fabric.channel_count() {
         if is_nearer(fabric, rows, channel, switch, destination) {
-            list[count] = channel as u8;
-            count += 1;
+            list.push(channel as u8);
         }
     }
-    count
+    list
 }
 
 // The candidate that the planner takes: the lowest.
 fn choose(candidates: &[u8]) -> Option<u8>
     ensures { result ≡ chosen candidates.now }
 {
-    if candidates.len() == 0 {
-        return None;
-    }
-    Some(candidates[0])
+    candidates.first().copied()
 }
 
 // The byte of the channel taken at a switch for a destination.
@@ -80,12 +69,7 @@ fn toward(fabric: &Fabric, rows: &HopRows, switch: u32, destination: u32) -> u8
     if switch == destination {
         return NONE;
     }
-    let mut list = [NONE; 128];
-    let count = candidates(fabric, rows, switch, destination, &mut list);
-    match choose(&list[0..count]) {
-        Some(channel) => channel,
-        None => NONE,
-    }
+    choose(&candidates(fabric, rows, switch, destination)).unwrap_or(NONE)
 }
 
 // The table of the channels taken, each one hop nearer.
