@@ -1,19 +1,18 @@
 -- Hop counts by rows, the channels that lead nearer, and the bytes of tables.
-use Rattle.std.specs.Prelude.{◌≡◌, ℕ, zero, suc, ◌+◌, ◌*◌, ◌<◌, Bool, true, false, List, [], ◌∷◌, None, Option, ◌==◌, slice_index_or}
-use Rattle.model.specs.Net.{Net, finish_of, leaves}
+use Rattle.std.specs.Prelude.{◌≡◌, ℕ, ◌+◌, ◌*◌, ◌<◌, Bool, true, false, List, ◌==◌, slice_index_or}
+use Rattle.model.specs.Net.{Net, joins, finish_of, leaves}
+use Rattle.model.specs.Walks.{Fewest}
 use Rattle.model.specs.Planner.{hops, one_more, chosen, nearer, byte_of}
 use Rattle.graph.specs.Distances.{hops_to}
 use Rattle.graph.specs.declared.search.Distances.{Distances}
 
--- What row u says of switch v.
-abbrev pub hops_at : List Distances → ℕ → ℕ → Option ℕ
-hops_at [] u v = None
-hops_at (x ∷ xs) zero v = hops_to x v
-hops_at (x ∷ xs) (suc u) v = hops_at xs u v
+-- The row of switch u: the fewest channels to each switch.
+abbrev pub IsRow : Net → ℕ → Distances → Type 0
+IsRow net u x = (v : ℕ) → Fewest (joins net) net.switches u v (hops_to x v)
 
--- The rows of a fabric's hop counts.
+-- The rows hold a fabric's hop counts.
 abbrev pub Measured : Net → List Distances → Type 0
-Measured net rows = (u v : ℕ) → u < net.switches → v < net.switches → hops_at rows u v ≡ hops net u v
+Measured net rows = (u v : ℕ) (d : Distances) → u < net.switches → v < net.switches → hops_to (slice_index_or rows u d) v ≡ hops net u v
 
 -- Channel c leaves u for a switch one hop nearer to d.
 abbrev pub is_nearer : Net → ℕ → ℕ → ℕ → Bool

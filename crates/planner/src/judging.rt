@@ -5,7 +5,6 @@ ghost use Rattle.fabric.specs.Of.{net};
 ghost use Rattle.routing.specs.Faults.{rule_refusal};
 ghost use Rattle.planner.specs.Drafts.{rule_of};
 ghost use Rattle.planner.specs.Faults.{topology_refusal};
-ghost use Rattle.planner.specs.Rows.{Measured};
 ghost use Rattle.planner.specs.Stages.{path_fault, route_fault, Judges};
 
 use crate::draft::Draft;
@@ -15,34 +14,24 @@ use fabric::Fabric;
 use routing::{Ending, RuleFault, route_ending};
 
 // Whether a path joins two switches.
-fn judge_path(
-    fabric: &Fabric,
-    rows: &HopRows,
-    source: u32,
-    destination: u32,
-) -> Result<(), TopologyFault>
-    requires from { source < (net fabric.now).switches }
-    requires to { destination < (net fabric.now).switches }
-    requires measured { Measured (net fabric.now) rows.now.rows }
-    ensures { Judges topology_refusal (path_fault (net fabric.now) source destination) result }
+fn judge_path(rows: &HopRows, source: u32, destination: u32) -> Result<(), TopologyFault>
+    requires from { source < (net rows.now.fabric.now).switches }
+    requires to { destination < (net rows.now.fabric.now).switches }
+    ensures { Judges topology_refusal (path_fault (net rows.now.fabric.now) source destination) result }
 {
-    if source == destination {
+    if source == destination || rows.hops(source, destination).is_some() {
         return Ok(());
     }
-    match rows.hops(source, destination) {
-        Some(_) => Ok(()),
-        None => Err(TopologyFault::NoPath(source as u8, destination as u8)),
-    }
+    Err(TopologyFault::NoPath(source as u8, destination as u8))
 }
 
 // Refusal 9: the first pair without a path.
-pub(crate) fn judge_paths(fabric: &Fabric, rows: &HopRows) -> Result<(), TopologyFault>
-    requires { Measured (net fabric.now) rows.now.rows }
-    ensures { Judges topology_refusal (path_refusal (net fabric.now) (pairs_of (net fabric.now).switches)) result }
+pub(crate) fn judge_paths(rows: &HopRows) -> Result<(), TopologyFault>
+    ensures { Judges topology_refusal (path_refusal (net rows.now.fabric.now) (pairs_of (net rows.now.fabric.now).switches)) result }
 {
-    let switches = fabric.switch_count();
+    let switches = rows.fabric.switch_count();
     for cell in 0..switches * switches {
-        judge_path(fabric, rows, cell / switches, cell % switches)?;
+        judge_path(rows, cell / switches, cell % switches)?;
     }
     Ok(())
 }

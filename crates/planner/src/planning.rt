@@ -7,13 +7,12 @@ ghost use Rattle.planner.specs.Drafts.{front};
 ghost use Rattle.planner.specs.Plans.{given_long, call_test, table_of, table_refusal, Drafted, Plans};
 ghost use Rattle.planner.specs.Stages.{Judges, Drafts, Answers};
 
-use crate::choice::shortest;
 use crate::draft::Draft;
 use crate::fault::TopologyFault;
 use crate::filing::file_pairs;
 use crate::given::copy_given;
 use crate::judging::{judge_paths, judge_routes};
-use crate::rows::measure;
+use crate::rows::HopRows;
 use fabric::{CallFault, Fabric};
 
 // Both tables of a plan, each n × n bytes and then nothing.
@@ -51,9 +50,9 @@ fn judge_call(
 fn draft_shortest(fabric: &Fabric) -> Result<Draft, TopologyFault>
     ensures { Drafts (table_refusal (net fabric.now) None) (Drafted (net fabric.now) (table_of (net fabric.now) None)) result }
 {
-    let rows = measure(fabric);
-    judge_paths(fabric, &rows)?;
-    Ok(shortest(fabric, &rows))
+    let rows = HopRows::measure(fabric);
+    judge_paths(&rows)?;
+    Ok(rows.shortest())
 }
 
 // The given channels, if every route arrives.

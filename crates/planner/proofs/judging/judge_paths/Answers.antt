@@ -9,7 +9,7 @@ use Rattle.planner.proofs.judging.judge_paths.Goals as goal
 
 pub loop-cell-init : goal.loop-cell-init
 loop-cell-init c =
-    let N = net c.args.fabric.now in
+    let N = net c.args.rows.now.fabric.now in
     left_none (pathless N) (path_refusal N) (path_firsts N) c.switch_count-switches.result
 
 pub judge_path-requires : goal.judge_path-requires
@@ -19,12 +19,11 @@ judge_path-requires c =
     record {
       from = omega (arith, div_below c.loop-cell.cell r r (omega arith) (omega arith));
       to = omega (arith, mod_below c.loop-cell.cell r (omega arith));
-      measured = c.requires;
     }
 
 pub returns-in_err-judge_path : goal.returns-in_err-judge_path
 returns-in_err-judge_path c =
-    let N = net c.args.fabric.now in
+    let N = net c.args.rows.now.fabric.now in
     let s = c.switch_count-switches.ensures in
     let p = err_from_is_err_and c.from_residual.result c.from_residual.ensures.1 in
     let j = c.in_err-judge_path.ensures in
@@ -35,13 +34,13 @@ returns-in_err-judge_path c =
 
 pub loop-cell-preserved : goal.loop-cell-preserved
 loop-cell-preserved c =
-    let N = net c.args.fabric.now in
+    let N = net c.args.rows.now.fabric.now in
     left_more (pathless N) (path_refusal N) (path_firsts N) c.switch_count-switches.result c.loop-cell.cell (omega arith)
     c.in_ok-judge_path.ensures c.loop-cell.invariant
 
 pub returns : goal.returns
 returns c =
-    let N = net c.args.fabric.now in
+    let N = net c.args.rows.now.fabric.now in
     let s = c.switch_count-switches.ensures in
     subst (λ (m : ℕ). path_refusal N (pairs_of m) ≡ None) s.is
     (left_all (pathless N) (path_refusal N) (path_firsts N) c.switch_count-switches.result c.loop-cell.cell (omega arith) c.loop-cell.invariant)

@@ -4,10 +4,10 @@ use Rattle.model.specs.Planner.{byte_of, chosen, nearer, square}
 use Rattle.fabric.specs.Of.{net}
 use Rattle.planner.proofs.Squares.{filled_none, filled_more, filled_all}
 use Rattle.planner.proofs.TableCells.{few_cells}
-use Rattle.planner.proofs.choice.shortest.Goals as goal
+use Rattle.planner.proofs.rows.HopRows.shortest.Goals as goal
 
 pub loop-cell-init : goal.loop-cell-init
-loop-cell-init c = (filled_none c.switch_count-switches.result (λ u d. byte_of (chosen (nearer (net c.args.fabric.now) u d))) (replicate 1024 255), refl)
+loop-cell-init c = (filled_none c.switch_count-switches.result (λ u d. byte_of (chosen (nearer (net c.args.self.now.fabric.now) u d))) (replicate 1024 255), refl)
 
 pub toward-requires : goal.toward-requires
 toward-requires c =
@@ -16,7 +16,6 @@ toward-requires c =
     record {
       here = omega (arith, div_below c.loop-cell.cell r r (omega arith) (omega arith));
       there = omega (arith, mod_below c.loop-cell.cell r (omega arith));
-      measured = c.requires;
     }
 
 pub bounds-cells-cell : goal.bounds-cells-cell
@@ -26,14 +25,14 @@ pub loop-cell-preserved : goal.loop-cell-preserved
 loop-cell-preserved c =
     let i = c.loop-cell.invariant in
     let s = c.switch_count-switches.ensures in (
-      filled_more c.switch_count-switches.result (λ u d. byte_of (chosen (nearer (net c.args.fabric.now) u d))) c.loop-cell.cell c.toward.result
+      filled_more c.switch_count-switches.result (λ u d. byte_of (chosen (nearer (net c.args.self.now.fabric.now) u d))) c.loop-cell.cell c.toward.result
           c.loop-cell.cells (omega arith) (omega (arith, few_cells c.switch_count-switches.result s.range.1)) c.toward.ensures i.0,
       length-set _ _ _ ∙ i.1,
     )
 
 pub returns : goal.returns
 returns c =
-    let f : ℕ → ℕ → ℕ = λ u d. byte_of (chosen (nearer (net c.args.fabric.now) u d)) in
+    let f : ℕ → ℕ → ℕ = λ u d. byte_of (chosen (nearer (net c.args.self.now.fabric.now) u d)) in
     let s = c.switch_count-switches.ensures in
     record {
       size = s.is;

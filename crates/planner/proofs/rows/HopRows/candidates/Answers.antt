@@ -2,12 +2,12 @@ use Rattle.std.proofs.Common.{arith}
 use Rattle.std.proofs.lemmas.List.{length_push}
 use Rattle.fabric.specs.Of.{net}
 use Rattle.planner.proofs.Choosing.{gathered_yes, gathered_no}
-use Rattle.planner.proofs.choice.candidates.Goals as goal
-use Rattle.planner.proofs.choice.candidates.Goals.{then-is_nearer, else-is_nearer}
+use Rattle.planner.proofs.rows.HopRows.candidates.Goals as goal
+use Rattle.planner.proofs.rows.HopRows.candidates.Goals.{then-is_nearer, else-is_nearer}
 
 pub loop-channel-preserved : goal.loop-channel-preserved
 loop-channel-preserved c =
-    let N = net c.args.fabric.now in
+    let N = net c.args.self.now.fabric.now in
     let i = c.loop-channel.invariant in
     elim c.if-is_nearer.branch [
       | then-is_nearer w ↦
