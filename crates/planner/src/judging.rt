@@ -47,15 +47,10 @@ fn judge_route(
     requires to { destination < (net fabric.now).switches }
     ensures { Judges rule_refusal (route_fault (net fabric.now) (rule_of draft.now) source destination) result }
 {
-    let from = source as u8;
-    let to = destination as u8;
-    let Some(ending) = route_ending(fabric, draft, source, destination) else {
-        return Ok(());
-    };
-    match ending {
-        Ending::Arrives => Ok(()),
-        Ending::Stops(at) => Err(RuleFault::Stopped(from, to, at)),
-        Ending::Tires => Err(RuleFault::Unreached(from, to)),
+    match route_ending(fabric, draft, source, destination) {
+        None | Some(Ending::Arrives) => Ok(()),
+        Some(Ending::Stops(at)) => Err(RuleFault::Stopped(source as u8, destination as u8, at)),
+        Some(Ending::Tires) => Err(RuleFault::Unreached(source as u8, destination as u8)),
     }
 }
 
