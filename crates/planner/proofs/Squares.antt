@@ -1,7 +1,7 @@
 -- A square of n rows of n cells is one list of n × n cells: cell i stands in row i / n and column i % n.
-use Rattle.std.proofs.Common.{◌≡◌, ℕ, zero, suc, ◌+◌, ◌-◌, ◌*◌, ◌/◌, ◌%◌, ◌<◌, ◌≤◌, Bool, true, false, cond, not, eqb, List, [], ◌∷◌, ◌++◌, map, length, take, set, sym, refl, ap, ◌∙◌, append_assoc, suc-mul, zero-mul, arith}
+use Rattle.std.proofs.Common.{◌≡◌, ℕ, zero, suc, ◌+◌, ◌-◌, ◌*◌, ◌/◌, ◌%◌, ◌<◌, ◌≤◌, Bool, true, false, cond, not, eqb, List, [], ◌∷◌, ◌++◌, map, length, sym, refl, ap, ◌∙◌, append_assoc, suc-mul, zero-mul, arith}
 use Rattle.std.proofs.lemmas.Nat.{div-mul-add, mod-mul-add}
-use Rattle.std.proofs.lemmas.List.{take_more_set}
+use Rattle.std.proofs.lemmas.List.{append-nil, length_push}
 use Rattle.model.specs.Lists.{up_from, below, keep, joined}
 use Rattle.model.specs.Routes.{Pair, pairs_of}
 use Rattle.model.specs.Planner.{square}
@@ -94,7 +94,7 @@ pairs_on n i h = ap (joined (pair_at n)) (up_from_more (n * n - i) (n * n - (i +
 pub pairs_none : (n i : ℕ) → n * n ≤ i → pairs_from n i ≡ []
 pairs_none n i h = ap (joined (pair_at n)) (up_from_none (n * n - i) i (omega arith))
 
--- A list that is filled cell by cell: those from i on are still to come.
+-- A list that is filled cell by cell.
 module _ (n : ℕ) (f : ℕ → ℕ → ℕ) where
   abbrev byte : ℕ → ℕ → ℕ
   byte u d = elim (eqb u d) [ true ↦ 255 | false ↦ f u d ]
@@ -102,31 +102,37 @@ module _ (n : ℕ) (f : ℕ → ℕ → ℕ) where
   abbrev one : ℕ → List ℕ
   one i = byte (i / n) (i % n) ∷ []
 
-  abbrev pub Filled : ℕ → List ℕ → Type 0
-  Filled i xs = take i xs ++ joined one (up_from (n * n - i) i) ≡ square n f
+  -- It has the bytes of the cells below i; those from i on are still to come.
+  pub record Filled (i : ℕ) (xs : List ℕ) : Type 0 where
+    pub left : xs ++ joined one (up_from (n * n - i) i) ≡ square n f
+    pub long : length xs ≡ i
 
-  pub filled_none : (xs : List ℕ) → Filled 0 xs
-  filled_none xs =
-      ap (λ (m : ℕ). joined one (up_from m 0)) (sym (whole (n * n)))
-      ∙ sym (grid (λ u d. byte u d ∷ []) n)
-      ∙ sym (joined_same (λ u. map (byte u) (below n)) (λ u. joined (λ d. byte u d ∷ []) (below n)) (below n) (λ u. map_joined (byte u) (below n)))
+  pub filled_none : (xs : List ℕ) → xs ≡ [] → Filled 0 xs
+  filled_none xs e =
+      record {
+        left =
+            ap (λ z. z ++ joined one (up_from (n * n - 0) 0)) e
+            ∙ ap (λ (m : ℕ). joined one (up_from m 0)) (sym (whole (n * n)))
+            ∙ sym (grid (λ u d. byte u d ∷ []) n)
+            ∙ sym (joined_same (λ u. map (byte u) (below n)) (λ u. joined (λ d. byte u d ∷ []) (below n)) (below n) (λ u. map_joined (byte u) (below n)));
+        long = ap length e;
+      }
     where
       whole : (m : ℕ) → m ≡ m - 0
       whole m = omega arith
 
-  pub filled_more : (i v : ℕ) (xs : List ℕ) → i < n * n → i < length xs → v ≡ byte (i / n) (i % n) → Filled i xs → Filled (i + 1) (set xs i v)
-  filled_more i v xs h l e F =
+  pub filled_more : (i v : ℕ) (xs ys : List ℕ) → ys ≡ xs ++ v ∷ [] → i < n * n → v ≡ byte (i / n) (i % n) → Filled i xs → Filled (i + 1) ys
+  filled_more i v xs ys p h e F =
       let rest = joined one (up_from (n * n - (i + 1)) (i + 1)) in
-      ap (λ z. z ++ rest) (take_more_set xs i v l)
-      ∙ append_assoc (take i xs) (v ∷ []) rest
-      ∙ ap (λ (w : ℕ). take i xs ++ (w ∷ rest)) e
-      ∙ ap (λ z. take i xs ++ joined one z) (sym (up_from_more (n * n - i) (n * n - (i + 1)) i (omega arith)))
-      ∙ F
+      record {
+        left =
+            ap (λ z. z ++ rest) p
+            ∙ append_assoc xs (v ∷ []) rest
+            ∙ ap (λ (w : ℕ). xs ++ (w ∷ rest)) e
+            ∙ ap (λ z. xs ++ joined one z) (sym (up_from_more (n * n - i) (n * n - (i + 1)) i (omega arith)))
+            ∙ F.left;
+        long = ap length p ∙ length_push xs v ∙ ap (λ (m : ℕ). m + 1) F.long;
+      }
 
-  pub filled_all : (i : ℕ) (xs : List ℕ) → i ≡ n * n → Filled i xs → take (n * n) xs ≡ square n f
-  filled_all i xs e F =
-      ap (λ (m : ℕ). take m xs) (sym e) ∙ sym (nil (take i xs)) ∙ ap (λ z. take i xs ++ joined one z) (sym (up_from_none (n * n - i) i (omega arith))) ∙ F
-    where
-      nil : (ys : List ℕ) → ys ++ [] ≡ ys
-      nil [] = refl
-      nil (y ∷ ys) = ap (λ z. y ∷ z) (nil ys)
+  pub filled_all : (i : ℕ) (xs : List ℕ) → n * n ≤ i → Filled i xs → xs ≡ square n f
+  filled_all i xs h F = sym (append-nil xs) ∙ ap (λ z. xs ++ joined one z) (sym (up_from_none (n * n - i) i (omega arith))) ∙ F.left

@@ -1,14 +1,13 @@
 -- The cells of a channel table in the making.
-use Rattle.std.proofs.Common.{◌≡◌, ℕ, zero, suc, ◌+◌, ◌*◌, ◌/◌, ◌%◌, ◌<◌, ◌≤◌, Bool, true, false, cond, List, [], length, get_or, take, replicate, Some, None, sym, refl, ap, ◌∙◌, arith}
+use Rattle.std.proofs.Common.{◌≡◌, ℕ, ◌+◌, ◌*◌, ◌/◌, ◌%◌, ◌<◌, ◌≤◌, Bool, true, false, cond, List, [], length, get_or, replicate, Some, None, sym, ap, ◌∙◌, arith}
 use Rattle.std.proofs.lemmas.Nat.{mul-add-lt, mul-le, div-add-mod'}
 use Rattle.std.proofs.lemmas.List.{get_or_default}
 use Rattle.std.proofs.lemmas.Bool.{lt-ltb, ne_eqb, cond-true}
-use Rattle.model.specs.Rules.{Rule, channel_byte, table_rule}
-use Rattle.routing.proofs.Cells.{table_front}
+use Rattle.model.specs.Rules.{channel_byte, table_rule}
 use Rattle.model.specs.Net.{Net, is_pair}
-use Rattle.model.specs.Routes.{Pair, pairs_of}
-use Rattle.model.specs.Planner.{filed, file_from, routes_refusal}
-use Rattle.planner.specs.Drafts.{rule_of, front}
+use Rattle.model.specs.Routes.{pairs_of}
+use Rattle.model.specs.Planner.{filed, file_from}
+use Rattle.planner.specs.Drafts.{rule_of}
 use Rattle.planner.specs.Rows.{given_byte}
 use Rattle.planner.specs.declared.draft.Draft.{Draft}
 
@@ -28,31 +27,14 @@ draft_read n s d xs a b e l h =
     let byte : channel_byte (get_or xs k 0) ≡ Some (get_or xs k 0) = cond-true _ _ _ (lt-ltb (get_or xs k 0) 255 h) in
     sym byte ∙ ap channel_byte (get_or_default xs k 0 255 i) ∙ sym (cond-true _ _ _ p)
 
-take_nil : (m : ℕ) → ◌≡◌ {A = List ℕ} [] (take m [])
-take_nil zero = refl
-take_nil (suc m) = refl
-
--- What follows the table's cells says nothing.
-pub rule_front : (n : ℕ) (xs : List ℕ) → table_rule n (front n xs) [] ≡ table_rule n xs []
-rule_front n xs = table_front n n (front n xs) [] xs [] refl refl (take_nil (n * n))
-
-draft_rule : (n : ℕ) (x : Draft) → x.switches ≡ n → table_rule n (front n x.cells) [] ≡ rule_of x
-draft_rule n x e = rule_front n x.cells ∙ ap (λ (m : ℕ). table_rule m x.cells []) (sym e)
-
 -- The pairs are filed by the rule of the table in the making.
 pub draft_filed : (net : Net) (lanes : ℕ) (x : Draft) (r : ℕ) → x.switches ≡ net.switches → r ≡ net.switches
-    → filed net lanes (front net.switches x.cells)
-    ≡ file_from net (rule_of x) (front net.switches x.cells) (pairs_of r) (replicate lanes []) (replicate (r * r) 255)
+    → filed net lanes x.cells.items ≡ file_from net (rule_of x) x.cells.items (pairs_of r) (replicate lanes []) (replicate (r * r) 255)
 draft_filed net lanes x r e q =
     let n = net.switches in
-    let t = front n x.cells in
-    ap (λ (m : Rule). file_from net m t (pairs_of n) (replicate lanes []) (replicate (n * n) 255)) (draft_rule n x e)
+    let t = x.cells.items in
+    ap (λ (m : ℕ). file_from net (table_rule m t []) t (pairs_of n) (replicate lanes []) (replicate (n * n) 255)) (sym e)
     ∙ ap (λ (m : ℕ). file_from net (rule_of x) t (pairs_of m) (replicate lanes []) (replicate (m * m) 255)) (sym q)
-
--- Its routes are tested by that rule.
-pub draft_routes : (net : Net) (x : Draft) (ps : List Pair) → x.switches ≡ net.switches
-    → routes_refusal net (table_rule net.switches (front net.switches x.cells) []) ps ≡ routes_refusal net (rule_of x) ps
-draft_routes net x ps e = ap (λ (m : Rule). routes_refusal net m ps) (draft_rule net.switches x e)
 
 -- A byte of a given table that is not on the diagonal.
 pub given_read : (n i : ℕ) (xs : List ℕ) → i < length xs → (i / n ≡ i % n → ⊥) → get_or xs i 0 ≡ given_byte n xs (i / n) (i % n)

@@ -44,8 +44,3 @@ Admits n c c' was is false = Reach (edge_at was) n c' c
 abbrev pub Tried : ℕ → (ℕ → ℕ → Bool) → List Bool → List Bool → Bool → Type 0
 Tried n e was is true = Adds e was is × Acyclic (edge_at is) n
 Tried n e was is false = Acyclic (with was e) n → ⊥
-
--- Whether they were, and else the cells are as before.
-abbrev pub Filed : ℕ → (ℕ → ℕ → Bool) → List Bool → List Bool → Bool → Type 0
-Filed n e was is true = Adds e was is × Acyclic (edge_at is) n
-Filed n e was is false = (is ≡ was) × (Acyclic (with was e) n → ⊥)

@@ -5,7 +5,6 @@ use Rattle.model.specs.Rules.{table_rule}
 use Rattle.model.specs.Routes.{pairs_of}
 use Rattle.model.specs.Refusals.{Refusal, refuse, call_layer}
 use Rattle.model.specs.Planner.{Planned, tables, refused, unless, hop_table, copied, path_refusal, routes_refusal, planned}
-use Rattle.planner.specs.Drafts.{front}
 use Rattle.planner.specs.Faults.{topology_refusal}
 use Rattle.planner.specs.declared.draft.Draft.{Draft}
 use Rattle.planner.specs.declared.fault.TopologyFault.{TopologyFault}
@@ -34,7 +33,7 @@ table_refusal net (Some given) = routes_refusal net (table_rule net.switches (co
 
 -- x holds this channel table of a fabric.
 abbrev pub Drafted : Net → List ℕ → Draft → Type 0
-Drafted net table x = (x.switches ≡ net.switches) × (front net.switches x.cells ≡ table)
+Drafted net table x = (x.switches ≡ net.switches) × (x.cells.items ≡ table)
 
 -- The whole answer: the tests of the call, then the plan.
 abbrev pub answer : Net → ℕ → Option (List ℕ) → ℕ → ℕ → Planned

@@ -1,7 +1,6 @@
 ghost use Rattle.std.specs.Prelude.{◌≡◌, ◌<◌};
 ghost use Rattle.model.specs.Planner.{one_more, nearer, chosen, hop_table};
 ghost use Rattle.fabric.specs.Of.{net};
-ghost use Rattle.planner.specs.Drafts.{front};
 ghost use Rattle.planner.specs.Rows.{is_nearer, toward_byte};
 
 use crate::draft::{Draft, NONE};
@@ -70,14 +69,15 @@ impl HopRows<'_> {
     }
 
     // The table of the channels taken, each one hop nearer.
+    #[tactic(auto, using(crate::proofs::Squares::filled_none, crate::proofs::Squares::filled_more))]
     pub(crate) fn shortest(&self) -> Draft
         ensures size { result.switches ≡ (net self.now.fabric.now).switches }
-        ensures table { front (net self.now.fabric.now).switches result.cells ≡ hop_table (net self.now.fabric.now) }
+        ensures table { result.cells.items ≡ hop_table (net self.now.fabric.now) }
     {
         let switches = self.fabric.switch_count();
-        let mut cells = [NONE; 1024];
+        let mut cells = ArrayVec::new();
         for cell in 0..switches * switches {
-            cells[cell as usize] = self.toward(cell / switches, cell % switches);
+            cells.push(self.toward(cell / switches, cell % switches));
         }
         Draft {
             switches: switches as u8,

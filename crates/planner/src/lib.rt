@@ -2,6 +2,7 @@
 #![tactic(auto)]
 
 mod choice;
+mod dependencies;
 mod draft;
 pub mod fault;
 mod filing;

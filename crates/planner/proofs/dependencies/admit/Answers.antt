@@ -1,6 +1,6 @@
 use Rattle.std.proofs.Common.{refl, arith}
 use Rattle.planner.proofs.Adding.{admits_same, admits_new, admits_not}
-use Rattle.planner.proofs.lane.admit.Goals as goal
+use Rattle.planner.proofs.dependencies.admit.Goals as goal
 
 pub returns-then-lane-cell : goal.returns-then-lane-cell
 returns-then-lane-cell c =

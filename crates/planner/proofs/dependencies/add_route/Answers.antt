@@ -5,7 +5,7 @@ use Rattle.planner.specs.Cells.{edge_at, Acyclic, Reach, Admits}
 use Rattle.planner.specs.Drafts.{rule_of}
 use Rattle.planner.proofs.Stepping.{walk_stop, walk_none}
 use Rattle.planner.proofs.Adding.{noted_first, noted_more, noted_closes, noted_end, noted_nothing}
-use Rattle.planner.proofs.lane.add_route.Goals as goal
+use Rattle.planner.proofs.dependencies.add_route.Goals as goal
 
 pub returns-in_default : goal.returns-in_default
 returns-in_default c =

@@ -3,7 +3,7 @@ use Rattle.model.specs.Net.{count, finish_of}
 use Rattle.fabric.specs.Of.{net}
 use Rattle.planner.specs.Drafts.{rule_of}
 use Rattle.planner.proofs.Adding.{Noted}
-use Rattle.planner.proofs.lane.add_route.Given as goal
+use Rattle.planner.proofs.dependencies.add_route.Given as goal
 
 abbrev pub invariant-loop-taken : goal.invariant-loop-taken
 invariant-loop-taken l =
