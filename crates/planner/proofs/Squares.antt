@@ -1,7 +1,7 @@
 -- A square of n rows of n cells is one list of n × n cells: cell i stands in row i / n and column i % n.
 use Rattle.std.proofs.Common.{◌≡◌, ℕ, zero, suc, ◌+◌, ◌-◌, ◌*◌, ◌/◌, ◌%◌, ◌<◌, ◌≤◌, Bool, true, false, cond, not, eqb, List, [], ◌∷◌, ◌++◌, map, length, sym, refl, ap, ◌∙◌, append_assoc, suc-mul, zero-mul, arith}
 use Rattle.std.proofs.lemmas.Nat.{div-mul-add, mod-mul-add}
-use Rattle.std.proofs.lemmas.List.{append-nil, length_push}
+use Rattle.std.proofs.lemmas.List.{length_push}
 use Rattle.model.specs.Lists.{up_from, below, keep, joined}
 use Rattle.model.specs.Routes.{Pair, pairs_of}
 use Rattle.model.specs.Planner.{square}
@@ -133,6 +133,3 @@ module _ (n : ℕ) (f : ℕ → ℕ → ℕ) where
             ∙ F.left;
         long = ap length p ∙ length_push xs v ∙ ap (λ (m : ℕ). m + 1) F.long;
       }
-
-  pub filled_all : (i : ℕ) (xs : List ℕ) → n * n ≤ i → Filled i xs → xs ≡ square n f
-  filled_all i xs h F = sym (append-nil xs) ∙ ap (λ z. xs ++ joined one z) (sym (up_from_none (n * n - i) i (omega arith))) ∙ F.left

@@ -42,6 +42,7 @@ impl HopRows<'_> {
     }
 
     // The channels that leave a switch for one that is one hop nearer to the destination, ascending.
+    #[tactic(auto, using(crate::proofs::Choosing::gathered_yes, crate::proofs::Choosing::gathered_no))]
     fn candidates(&self, switch: u32, destination: u32) -> ArrayVec<u8, 128>
         requires here { switch < (net self.now.fabric.now).switches }
         requires there { destination < (net self.now.fabric.now).switches }

@@ -1,11 +1,6 @@
-use Rattle.std.proofs.Common.{◌≤◌}
-use Rattle.arrayvec.specs.ArrayVec.{array_vec_len}
 use Rattle.fabric.specs.Of.{net}
 use Rattle.planner.proofs.Choosing.{Gathered}
 use Rattle.planner.proofs.rows.HopRows.candidates.Given as goal
 
 abbrev pub invariant-loop-channel : goal.invariant-loop-channel
-invariant-loop-channel l = record {
-  gathered : Gathered (net l.self.fabric.now) l.switch l.destination l.channel l.list.items;
-  few : array_vec_len l.list ≤ l.channel;
-}
+invariant-loop-channel l = Gathered (net l.self.fabric.now) l.switch l.destination l.channel l.list.items
