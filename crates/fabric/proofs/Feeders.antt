@@ -1,74 +1,82 @@
--- The positions of a channel, as a loop over the channels finds them.
-use Rattle.std.proofs.Common.{◌≡◌, ℕ, zero, suc, ◌+◌, ◌-◌, ◌<◌, ◌≤◌, true, false, cond, ltb, List, [], ◌∷◌, map, length, drop, Some, None, ◌==◌, ◌≢◌, nat_lt, get_or, refl}
-use Rattle.std.proofs.Common.{sym, ap, ◌∙◌, arith, add-one}
-use Rattle.std.proofs.lemmas.List.{drop_more, drop_all, get_or-map, length-map}
-use Rattle.std.proofs.lemmas.Bool.{eq-eqb, ne_eqb, lt-ltb, le-ltb, cond-true, cond-false}
-use Rattle.std.specs.List.{slice_get}
+-- The positions of a channel, by the channels that end at the switch that it leaves.
+use Rattle.std.proofs.Common.{◌≡◌, ℕ, zero, suc, ◌+◌, ◌-◌, ◌<◌, ◌≤◌, Bool, true, false, cond, ltb, eqb, List, [], ◌∷◌, map, filter, count_by, length, Some, None, Option, ◌==◌, ◌≢◌, nat_lt, get_or, vec_items, refl}
+use Rattle.std.proofs.Common.{sym, ap, subst, ◌∙◌, arith, add-one}
+use Rattle.std.proofs.lemmas.List.{get_or-map, get_or_default, length-map}
+use Rattle.std.proofs.lemmas.Option.{slice_get-map}
+use Rattle.std.proofs.lemmas.List.Sums.{sum_by-cons}
+use Rattle.std.proofs.lemmas.List.FromFn.{length-enumerate_from, get_or-enumerate_from}
+use Rattle.std.proofs.lemmas.List.Elements.{All-filter, filter_passes}
+use Rattle.std.proofs.lemmas.Bool.{lt-ltb, le-ltb, eqb-true}
+use Rattle.std.specs.List.{slice_get, enumerate_from, All}
+use Rattle.std.specs.Option.{option_map, MatchOption}
 use Rattle.model.specs.Lists.{up_from, keep}
 use Rattle.model.specs.Net.{Net, count, start_of, finish_of, nowhere}
-use Rattle.model.specs.Positions.{Position, sender, over, feeds, positions}
-use Rattle.fabric.specs.Channels.{plain}
+use Rattle.model.specs.Positions.{Position, sender, over, feeds, positions, position_count, position_at}
+use Rattle.fabric.specs.Channels.{plain, feeders}
+use Rattle.fabric.specs.Of.{net}
+use Rattle.fabric.specs.declared.network.Fabric.{Fabric}
 use Rattle.fabric.specs.declared.channel.Channel.{Channel}
 
 -- stands where a channel is missing
-abbrev pub blank : Channel
+abbrev blank : Channel
 blank = record { start = 0; finish = 0 }
-
--- those channels of a list, whose first has number i, that end at switch u
-abbrev pub feeders_from : ℕ → ℕ → List Channel → List Position
-feeders_from u i [] = []
-feeders_from u i (x ∷ xs) = cond (x.finish == u) (over i ∷ feeders_from u (i + 1) xs) (feeders_from u (i + 1) xs)
-
--- one channel more
-pub feeder_here : (u i : ℕ) (xs : List Channel) → i < length xs → (get_or xs i blank).finish ≡ u
-    → feeders_from u i (drop i xs) ≡ over i ∷ feeders_from u (i + 1) (drop (i + 1) xs)
-feeder_here u i xs h e = ap (λ (z : List Channel). feeders_from u i z) (drop_more xs i blank h) ∙ cond-true _ _ _ (eq-eqb _ _ e)
-
-pub feeder_elsewhere : (u i : ℕ) (xs : List Channel) → i < length xs → ((get_or xs i blank).finish ≢ u)
-    → feeders_from u i (drop i xs) ≡ feeders_from u (i + 1) (drop (i + 1) xs)
-feeder_elsewhere u i xs h e = ap (λ (z : List Channel). feeders_from u i z) (drop_more xs i blank h) ∙ cond-false _ _ _ (ne_eqb _ _ e)
-
-pub feeders_end : (u i : ℕ) (xs : List Channel) → length xs ≤ i → feeders_from u i (drop i xs) ≡ []
-feeders_end u i xs h = ap (λ (z : List Channel). feeders_from u i z) (drop_all i xs h)
 
 -- the fabric of these channels
 abbrev pub net_over : ℕ → List Channel → Net
 net_over n xs = record { switches = n; channels = map plain xs }
 
-pub count_over : (n : ℕ) (xs : List Channel) → count (net_over n xs) ≡ length xs
+count_over : (n : ℕ) (xs : List Channel) → count (net_over n xs) ≡ length xs
 count_over n xs = length-map xs plain
 
-pub finish_over : (n c : ℕ) (xs : List Channel) → c < length xs → finish_of (net_over n xs) c ≡ (get_or xs c blank).finish
+finish_over : (n c : ℕ) (xs : List Channel) → c < length xs → finish_of (net_over n xs) c ≡ (get_or xs c blank).finish
 finish_over n c xs h = ap (λ (x : Rattle.model.specs.Net.Channel). x.finish) (get_or-map plain xs c blank nowhere h)
 
-pub start_over : (n c : ℕ) (xs : List Channel) → c < length xs → start_of (net_over n xs) c ≡ (get_or xs c blank).start
-start_over n c xs h = ap (λ (x : Rattle.model.specs.Net.Channel). x.start) (get_or-map plain xs c blank nowhere h)
+-- the feeders, where the first channel has number i
+abbrev feeders_from : ℕ → ℕ → List Channel → List ℕ
+feeders_from u i xs = map (λ (p : ℕ × Channel). p.0) (filter (λ (p : ℕ × Channel). p.1.finish == u) (enumerate_from i xs))
+
+feeders_are : (u : ℕ) (xs : List Channel) → feeders u xs ≡ feeders_from u 0 xs
+unfolding feeders
+feeders_are u xs = refl
+
+one_more : (b : Bool) (i : ℕ) (x : Channel) (ps : List (ℕ × Channel))
+    → map (λ (p : ℕ × Channel). p.0) (cond b ((i, x) ∷ ps) ps) ≡ cond b (i ∷ map (λ (p : ℕ × Channel). p.0) ps) (map (λ (p : ℕ × Channel). p.0) ps)
+one_more true i x ps = refl
+one_more false i x ps = refl
+
+feeders_more : (u i : ℕ) (x : Channel) (xs : List Channel) → feeders_from u i (x ∷ xs) ≡ cond (x.finish == u) (i ∷ feeders_from u (i + 1) xs) (feeders_from u (i + 1) xs)
+feeders_more u i x xs = one_more (x.finish == u) i x (filter (λ (p : ℕ × Channel). p.1.finish == u) (enumerate_from (i + 1) xs))
+
+over_one : (b : Bool) (i : ℕ) (ks : List ℕ) → cond b (over i ∷ map over ks) (map over ks) ≡ map over (cond b (i ∷ ks) ks)
+over_one true i ks = refl
+over_one false i ks = refl
 
 kept : (net : Net) (c i : ℕ) (xs : List Channel) → nat_lt c (count net) ≡ true
     → ((j : ℕ) → j < length xs → finish_of net (i + j) ≡ (get_or xs j blank).finish)
-    → keep (λ x. feeds net x c) (map over (up_from (length xs) i)) ≡ feeders_from (start_of net c) i xs
+    → keep (λ x. feeds net x c) (map over (up_from (length xs) i)) ≡ map over (feeders_from (start_of net c) i xs)
 kept net c i [] h at = refl
 kept net c i (x ∷ xs) h at =
+    let u : ℕ = start_of net c in
     let here : finish_of net i ≡ x.finish = ap (finish_of net) (omega arith) ∙ at 0 (omega arith) in
-    let more : keep (λ y. feeds net y c) (map over (up_from (length xs) (i + 1))) ≡ feeders_from (start_of net c) (i + 1) xs =
+    let more : keep (λ y. feeds net y c) (map over (up_from (length xs) (i + 1))) ≡ map over (feeders_from u (i + 1) xs) =
     kept net c (i + 1) xs h (λ j l. ap (finish_of net) (omega arith) ∙ at (suc j) (omega arith)) in
-    let next : keep (λ y. feeds net y c) (map over (up_from (length xs) (suc i))) ≡ feeders_from (start_of net c) (i + 1) xs =
+    let next : keep (λ y. feeds net y c) (map over (up_from (length xs) (suc i))) ≡ map over (feeders_from u (i + 1) xs) =
     ap (λ (k : ℕ). keep (λ y. feeds net y c) (map over (up_from (length xs) k))) (sym (add-one i)) ∙ more in
-    simp (h, here, next)
+    simp (h, here, next) (over_one (x.finish == u) i (feeders_from u (i + 1) xs)) ∙ sym (ap (map over) (feeders_more u i x xs))
 
 -- the positions of a channel that exists
-pub positions_are : (n c : ℕ) (xs : List Channel) → c < length xs
-    → positions (net_over n xs) c ≡ sender ∷ feeders_from (start_of (net_over n xs) c) 0 xs
+positions_are : (n c : ℕ) (xs : List Channel) → c < length xs
+    → positions (net_over n xs) c ≡ sender ∷ map over (feeders (start_of (net_over n xs) c) xs)
 positions_are n c xs h =
     let e = count_over n xs in
     let l : ltb c (count (net_over n xs)) ≡ true = lt-ltb c (count (net_over n xs)) (omega arith) in
     let k = kept (net_over n xs) c 0 xs l (λ j m. ap (finish_of (net_over n xs)) (omega arith) ∙ finish_over n j xs m) in
-    let q : keep (λ x. feeds (net_over n xs) x c) (map over (up_from (count (net_over n xs)) 0)) ≡ feeders_from (start_of (net_over n xs) c) 0 xs =
-    ap (λ (m : ℕ). keep (λ x. feeds (net_over n xs) x c) (map over (up_from m 0))) e ∙ k in
+    let q : keep (λ x. feeds (net_over n xs) x c) (map over (up_from (count (net_over n xs)) 0)) ≡ map over (feeders (start_of (net_over n xs) c) xs) =
+    ap (λ (m : ℕ). keep (λ x. feeds (net_over n xs) x c) (map over (up_from m 0))) e ∙ k ∙ sym (ap (map over) (feeders_are (start_of (net_over n xs) c) xs)) in
     simp l (ap (λ (z : List Position). sender ∷ z) q)
 
 -- a channel that does not exist has none
-pub positions_none : (net : Net) (c : ℕ) → count net ≤ c → positions net c ≡ []
+positions_none : (net : Net) (c : ℕ) → count net ≤ c → positions net c ≡ []
 positions_none net c h = let l : ltb c (count net) ≡ false = le-ltb c (count net) h in simp l (dropped (map over (up_from (count net) 0)) l)
   where
     fed : (x : Position) → nat_lt c (count net) ≡ false → feeds net x c ≡ false
@@ -79,19 +87,79 @@ positions_none net c h = let l : ltb c (count net) ≡ false = le-ltb c (count n
     dropped [] l = refl
     dropped (x ∷ xs) l = simp (fed x l, dropped xs l)
 
--- no element at a place: the list ends before it
-pub nth_none : {X : Type 0} (xs : List X) (i : ℕ) → slice_get xs i ≡ None → length xs ≤ i
-nth_none [] i h = omega arith
-nth_none (x ∷ xs) zero h = let z : ◌≡◌ {A = ℕ} 0 1 = cc in absurd (omega arith)
-nth_none (x ∷ xs) (suc i) h = let l = nth_none xs i h in omega arith
+-- how many there are
+pub count_positions : (f : Fabric) (c : ℕ) → c < count (net f) → position_count (net f) c ≡ 1 + length (feeders (start_of (net f) c) (vec_items f.channels))
+count_positions f c h =
+    let xs : List Channel = vec_items f.channels in
+    ap length (positions_are f.switches c xs (omega (arith, count_over f.switches xs))) ∙ omega (arith, length-map (feeders (start_of (net f) c) xs) over)
 
--- what stands at place n among the feeders from i on, by channel i
-pub at_here : (u i n : ℕ) (xs : List Channel) → i < length xs → (get_or xs i blank).finish ≡ u → n ≡ 0
-    → slice_get (feeders_from u i (drop i xs)) n ≡ Some (over i)
-at_here u i n xs h e z = ap (λ (m : ℕ). slice_get (feeders_from u i (drop i xs)) m) z ∙ ap (λ (ps : List Position). slice_get ps 0) (feeder_here u i xs h e)
+pub count_none : (f : Fabric) (c : ℕ) → count (net f) ≤ c → position_count (net f) c ≡ 0
+count_none f c h = ap length (positions_none (net f) c h)
 
-pub at_later : (u i n : ℕ) (xs : List Channel) → i < length xs → (get_or xs i blank).finish ≡ u → (n ≢ 0)
-    → slice_get (feeders_from u i (drop i xs)) n ≡ slice_get (feeders_from u (i + 1) (drop (i + 1) xs)) (n - 1)
-at_later u i n xs h e z =
-    let s : n ≡ suc (n - 1) = omega arith in
-    ap (λ (m : ℕ). slice_get (feeders_from u i (drop i xs)) m) s ∙ ap (λ (ps : List Position). slice_get ps (suc (n - 1))) (feeder_here u i xs h e)
+-- position i
+pub at_none : (f : Fabric) (c i : ℕ) → count (net f) ≤ c → position_at (net f) c i ≡ None
+at_none f c i h = ap (λ (ps : List Position). slice_get ps i) (positions_none (net f) c h)
+
+pub at_first : (f : Fabric) (c i : ℕ) → c < count (net f) → i ≡ 0 → position_at (net f) c i ≡ Some sender
+at_first f c i h z =
+    ap (λ (k : ℕ). position_at (net f) c k) z ∙ ap (λ (ps : List Position). slice_get ps 0) (positions_are f.switches c (vec_items f.channels) (omega (arith, count_over f.switches (vec_items f.channels))))
+
+pub at_later : (f : Fabric) (c i : ℕ) → c < count (net f) → (i ≢ 0)
+    → position_at (net f) c i ≡ option_map over (slice_get (feeders (start_of (net f) c) (vec_items f.channels)) (i - 1))
+at_later f c i h z =
+    let s : i ≡ suc (i - 1) = omega arith in
+    let xs : List Channel = vec_items f.channels in
+    ap (λ (k : ℕ). position_at (net f) c k) s
+    ∙ ap (λ (ps : List Position). slice_get ps (suc (i - 1))) (positions_are f.switches c xs (omega (arith, count_over f.switches xs)))
+    ∙ slice_get-map over (feeders (start_of (net f) c) xs) (i - 1)
+
+-- a feeder is a channel that ends at the switch
+abbrev Numbered : List Channel → ℕ × Channel → Type 0
+Numbered xs p = (p.0 < length xs) × (p.1 ≡ get_or xs p.0 blank)
+
+numbered : (xs : List Channel) → All (Numbered xs) (enumerate_from 0 xs)
+numbered xs k d l =
+    let h : k < length xs = omega (arith, length-enumerate_from 0 xs) in
+    let z : 0 + k ≡ k = omega arith in
+    let e : get_or (enumerate_from 0 xs) k d ≡ (k, get_or xs k d.1) = get_or-enumerate_from 0 xs k d h ∙ ap (λ (n : ℕ). (n, get_or xs k d.1)) z in
+    subst (Numbered xs) (sym e) (h, get_or_default xs k d.1 blank h)
+
+first_at : (P : ℕ → Type 0) (ps : List (ℕ × Channel)) (k : ℕ) → All (λ (p : ℕ × Channel). P p.0) ps
+    → MatchOption (slice_get (map (λ (p : ℕ × Channel). p.0) ps) k) (length (map (λ (p : ℕ × Channel). p.0) ps) ≤ k) P
+first_at P [] k h = omega arith
+first_at P (p ∷ ps) zero h = h 0 p (omega arith)
+first_at P (p ∷ ps) (suc k) h = by (slice_get (map (λ (q : ℕ × Channel). q.0) ps) k) (first_at P ps k (λ j d l. h (suc j) d (omega arith)))
+  where
+    by : (o : Option ℕ) → MatchOption o (length (map (λ (q : ℕ × Channel). q.0) ps) ≤ k) P → MatchOption o (length (map (λ (q : ℕ × Channel). q.0) (p ∷ ps)) ≤ suc k) P
+    by None l = omega arith
+    by (Some x) q = q
+
+pub feeder_ends : (f : Fabric) (u k : ℕ)
+    → MatchOption (slice_get (feeders u (vec_items f.channels)) k) (length (feeders u (vec_items f.channels)) ≤ k) (λ x. (x < count (net f)) × (finish_of (net f) x ≡ u))
+unfolding feeders
+feeder_ends f u k =
+    let xs : List Channel = vec_items f.channels in
+    let test = λ (p : ℕ × Channel). p.1.finish == u in
+    first_at (λ (x : ℕ). (x < count (net f)) × (finish_of (net f) x ≡ u)) (filter test (enumerate_from 0 xs)) k (λ j d l.
+        let n = All-filter test (Numbered xs) (enumerate_from 0 xs) (numbered xs) j d l in
+        let e = filter_passes test (enumerate_from 0 xs) j d l in
+        (
+          omega (arith, n.0, count_over f.switches xs),
+          finish_over f.switches _ xs n.0 ∙ (ap (λ (x : Channel). x.finish) (sym n.1) ∙ eqb-true _ _ e),
+        ))
+
+pub ruleset places = (at_none, at_first, at_later)
+
+counted : (u i : ℕ) (xs : List Channel) → length (feeders_from u i xs) ≡ count_by (λ (x : Channel). x.finish == u) xs
+counted u i [] = refl
+counted u i (x ∷ xs) =
+    let e : count_by (λ (y : Channel). y.finish == u) (x ∷ xs) ≡ cond (x.finish == u) 1 0 + count_by (λ (y : Channel). y.finish == u) xs = sum_by-cons (λ (y : Channel). cond (y.finish == u) 1 0) x xs in
+    ap length (feeders_more u i x xs) ∙ by (x.finish == u) (counted u (i + 1) xs) ∙ sym e
+  where
+    by : (b : Bool) → length (feeders_from u (i + 1) xs) ≡ count_by (λ (x : Channel). x.finish == u) xs
+        → length (cond b (i ∷ feeders_from u (i + 1) xs) (feeders_from u (i + 1) xs)) ≡ cond b 1 0 + count_by (λ (x : Channel). x.finish == u) xs
+    by true e = omega arith
+    by false e = omega arith
+
+pub length_feeders : (u : ℕ) (xs : List Channel) → count_by (λ (x : Channel). x.finish == u) xs ≡ length (feeders u xs)
+length_feeders u xs = sym (ap length (feeders_are u xs) ∙ counted u 0 xs)

@@ -1,3 +1,4 @@
 pub mod Cables
 pub mod Feeders
 pub mod Joining
+pub mod Pairing

@@ -2,5 +2,7 @@ pub mod Channels
 pub mod Faults
 pub mod Grids
 pub mod Of
+pub mod Pairs
+pub mod Lanes
 pub mod Makes
 pub mod Switches

@@ -4,17 +4,18 @@ ghost use Rattle.fabric.specs.Faults.{call_refusal, fabric_refusal};
 ghost use Rattle.fabric.specs.declared.fault.FabricFault.TheVariants.{Memory};
 
 use std::alloc::AllocError;
+use thiserror::Error;
 
 // What a caller does wrong.
-#[derive(Clone, Copy, PartialEq, Eq, Debug)]
+#[derive(Clone, Copy, PartialEq, Eq, Debug, Error)]
 pub enum CallFault {
-    // A switch, channel or lane number that does not exist, or a source equal to its destination.
+    #[error("a switch, channel or lane that does not exist, or a source that is its destination")]
     MissingNumber,
-    // The sender slot is taken.
+    #[error("the sender slot is taken")]
     SenderTaken,
-    // A list is too short.
+    #[error("a list is too short")]
     ShortList,
-    // The lane count is not 1 to 8.
+    #[error("the lane count is not 1 to 8")]
     LaneCount,
 }
 
@@ -33,19 +34,20 @@ impl CallFault {
 }
 
 // What is wrong with a cabling.
-#[derive(Clone, Copy, PartialEq, Eq, Debug)]
+#[derive(Clone, Copy, PartialEq, Eq, Debug, Error)]
 pub enum FabricFault {
-    // The switch count is not 2 to 32.
+    #[error("the switch count is not 2 to 32")]
     SwitchCount,
-    // The list of link ends is odd, empty or over 128 bytes.
+    #[error("the list of link ends is odd, empty or over 128 bytes")]
     EndList,
-    // An end of this link is not below the switch count.
+    #[error("an end of link {0} is not below the switch count")]
     MissingEnd(u8),
-    // Both ends of this link are the same switch.
+    #[error("both ends of link {0} are the same switch")]
     EqualEnds(u8),
-    // A side of the grid is 0, or its switches are not 2 to 32.
+    #[error("a side of the grid is 0, or its switches are not 2 to 32")]
     GridSize,
     // There is no memory. That is no refusal, and has no number.
+    #[error("there is no memory")]
     Memory,
 }
 

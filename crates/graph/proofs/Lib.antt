@@ -1,3 +1,2 @@
 mod Relaxing
-mod Growing
 mod Spreading

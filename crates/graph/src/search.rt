@@ -1,17 +1,14 @@
-ghost use Rattle.std.specs.Prelude.{◌≡◌, ℕ, ◌<◌, replicate};
+ghost use Rattle.std.specs.Prelude.{◌≡◌, ℕ, ◌<◌};
 ghost use Rattle.model.specs.Walks.{Fewest};
-ghost use Rattle.graph.specs.Distances.{Row, hops_to};
+ghost use Rattle.graph.specs.Distances.{Blank, Row, hops_to};
 ghost use Rattle.graph.specs.Rounds.{Relaxed, Grown};
 
 use crate::Graph;
 
-// Stands in a row for a node that is not reached.
-const UNREACHED: u8 = 255;
-
 // The fewest edges from one node of a graph to each of its nodes.
 #[derive(Clone, Copy)]
 pub struct Distances {
-    row: [u8; 128],
+    row: [Option<u8>; 128],
 }
 
 impl Distances {
@@ -19,26 +16,19 @@ impl Distances {
     pub fn to(&self, node: u32) -> Option<u32>
         ensures { result ≡ hops_to self.now node }
     {
-        if node >= 128 {
-            return None;
-        }
-        let hops = self.row[node as usize];
-        if hops == UNREACHED {
-            return None;
-        }
-        Some(hops as u32)
+        self.row.get(node as usize)?.map(u32::from)
     }
 }
 
 // Follows the edges of one node, reached in this round, to the nodes that are not reached yet.
-fn relax<G: Graph>(graph: &G, row: &mut [u8; 128], node: u32, round: u8) -> bool
-    requires { round < 254 }
+fn relax<G: Graph>(graph: &G, row: &mut [Option<u8>; 128], node: u32, round: u8) -> bool
+    requires { round < 255 }
     ensures { Relaxed (G.edge graph.now node) (G.nodes graph.now) (G.nodes graph.now) round row.old row.new result }
 {
     let mut changed = false;
     for to in 0..graph.node_count() {
-        if row[to as usize] == UNREACHED && graph.leads(node, to) {
-            row[to as usize] = round + 1;
+        if row[to as usize].is_none() && graph.leads(node, to) {
+            row[to as usize] = Some(round + 1);
             changed = true;
         }
     }
@@ -46,29 +36,30 @@ fn relax<G: Graph>(graph: &G, row: &mut [u8; 128], node: u32, round: u8) -> bool
 }
 
 // Follows the edges of every node reached in this round.
-fn advance<G: Graph>(graph: &G, row: &mut [u8; 128], round: u8) -> bool
-    requires { round < 254 }
+fn advance<G: Graph>(graph: &G, row: &mut [Option<u8>; 128], round: u8) -> bool
+    requires { round < 255 }
     ensures { Grown (G.edge graph.now) (G.nodes graph.now) round (G.nodes graph.now) row.old row.new result }
 {
     let mut changed = false;
     for node in 0..graph.node_count() {
-        if row[node as usize] == round {
-            let more = relax(graph, row, node, round);
-            changed = changed | more;
+        if row[node as usize] == Some(round) {
+            changed |= relax(graph, row, node, round);
         }
     }
     changed
 }
 
 // Fills a row in which nothing is reached.
-fn spread<G: Graph>(graph: &G, row: &mut [u8; 128], from: u32)
-    requires { (from < G.nodes graph.now) × (row.old ≡ replicate 128 255) }
+fn spread<G: Graph>(graph: &G, row: &mut [Option<u8>; 128], from: u32)
+    requires inside { from < G.nodes graph.now }
+    requires blank { Blank row.old }
     ensures { Row (G.edge graph.now) (G.nodes graph.now) from row.new }
 {
-    row[from as usize] = 0;
-    let mut round = 0u8;
-    while advance(graph, row, round) {
-        round += 1;
+    row[from as usize] = Some(0);
+    for round in 0..128 {
+        if !advance(graph, row, round) {
+            break;
+        }
     }
 }
 
@@ -76,7 +67,7 @@ fn spread<G: Graph>(graph: &G, row: &mut [u8; 128], from: u32)
 pub fn distances_from<G: Graph>(graph: &G, from: u32) -> Distances
     ensures { (to : ℕ) → Fewest (G.edge graph.now) (G.nodes graph.now) from to (hops_to result to) }
 {
-    let mut row = [UNREACHED; 128];
+    let mut row = [None; 128];
     if from < graph.node_count() {
         spread(graph, &mut row, from);
     }

@@ -6,6 +6,7 @@ pub mod Positions
 pub mod Cabling
 pub mod Rules
 pub mod Routes
+pub mod Pairs
 pub mod Order
 pub mod Verdicts
 pub mod Waits

@@ -3,3 +3,5 @@ pub mod Sides
 pub mod Joining
 pub mod GridLinks
 pub mod Walking
+pub mod Stepping
+pub mod Adding

@@ -23,6 +23,10 @@ pub record Leads (n : Net) (u : ℕ) (x : Hop) : Type 0 where
   pub ends : x.to ≡ finish_of n x.channel
   pub inside : x.to < n.switches
 
+-- Channel c exists, and ends at switch u.
+abbrev pub Comes : Net → ℕ → ℕ → Type 0
+Comes n u c = (c < count n) × (finish_of n c ≡ u)
+
 -- How the route of a pair ends; none where the two are no pair.
 abbrev pub pair_ends : Net → Rule → ℕ → ℕ → Option Ending
 pair_ends n rule s d = cond (is_pair n.switches s d) (Some (route_ends n rule s d)) None

@@ -5,23 +5,26 @@ ghost use Rattle.routing.specs.declared.fault.RuleFault.TheVariants.{Fabric, Cal
 
 use fabric::{CallFault, FabricFault};
 use std::alloc::AllocError;
+use thiserror::Error;
 
 // What is wrong with a route rule. A pair is its source and its destination.
-#[derive(Clone, Copy, PartialEq, Eq, Debug)]
+#[derive(Clone, Copy, PartialEq, Eq, Debug, Error)]
 pub enum RuleFault {
     // A pair, and the switch on its way whose channel is none, missing or leaves another switch.
+    #[error("the route from switch {0} to switch {1} stops at switch {2}")]
     Stopped(u8, u8, u8),
-    // A pair whose destination is not reached.
+    #[error("the route from switch {0} does not reach switch {1}")]
     Unreached(u8, u8),
-    // A pair whose lane is not below the lane count.
+    #[error("the lane from switch {0} to switch {1} is not below the lane count")]
     Laneless(u8, u8),
-    // A lane, and the length of a cycle of its channels.
+    #[error("the channels of lane {0} wait for each other in a cycle of {1}")]
     Cyclic(u8, u8),
-    // What is wrong with the cabling.
+    #[error("{0}")]
     Fabric(FabricFault),
-    // What the caller does wrong.
+    #[error("{0}")]
     Call(CallFault),
     // There is no memory. That is no refusal, and has no number.
+    #[error("there is no memory")]
     Memory,
 }
 

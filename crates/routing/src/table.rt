@@ -6,7 +6,7 @@ use crate::rule::RouteRule;
 
 mod makes;
 
-// Stands in a table for no channel, and for no lane.
+// Stands in a table for no channel, and for no lane: callers hand over tables of bytes, and so does the plan file.
 const NONE: u8 = 255;
 
 // A stored route rule: two lists of n × n bytes by row, channels by switch and destination, lanes by source and destination.
@@ -18,15 +18,15 @@ pub struct Table {
     ghost full: { (vec_len channels ≡ switches * switches) × (vec_len lanes ≡ switches * switches) },
 }
 
-// The byte of a pair in a list by row; 255 for equal or missing switches.
-fn cell(bytes: &[u8], switches: u8, row: u8, column: u8) -> u8
-    requires { switches * switches ≤ length bytes.now }
+// The byte of a pair in a list of a row for each switch; 255 for equal or missing switches, and past the list.
+pub fn cell(bytes: &[u8], switches: u8, row: u8, column: u8) -> u8
     ensures { result ≡ (if is_pair switches row column then slice_index_or bytes.now (row * switches + column) 255 else 255) }
 {
     if row >= switches || column >= switches || row == column {
         return NONE;
     }
-    bytes[row as usize * switches as usize + column as usize]
+    let at = row as usize * switches as usize + column as usize;
+    bytes.get(at).copied().unwrap_or(NONE)
 }
 
 impl RouteRule for Table {

@@ -1,7 +1,4 @@
-ghost use Rattle.std.specs.Prelude.{◌+◌, ◌*◌, length, if◌then◌else◌, None, nat_lt, slice_index};
-ghost use Rattle.model.specs.Rules.{channel_byte};
-
-use crate::{Ending, Grid, Hop, RouteRule, RuleFault, Table, next_hop, route_ending};
+use crate::{Ending, Grid, Hop, RouteRule, Rows, RuleFault, Table, next_hop, route_ending};
 use fabric::{CallFault, Fabric};
 use std::test::Fail;
 
@@ -11,29 +8,6 @@ const RING: [u8; 8] = [0, 1, 1, 2, 2, 3, 3, 0];
 const CHANNELS: [u8; 16] = [255, 0, 0, 7, 1, 255, 2, 1, 3, 3, 255, 4, 6, 5, 5, 255];
 
 const LANES: [u8; 16] = [255, 0, 1, 0, 0, 255, 0, 1, 1, 0, 255, 0, 0, 1, 0, 255];
-
-// A rule of four switches that borrows its bytes.
-#[derive(Clone, Copy)]
-struct Borrowed<'a> {
-    bytes: &'a [u8],
-}
-
-impl<'a> RouteRule for Borrowed<'a> {
-    ghost maps = { λ b. record { next = λ u d. (if nat_lt (u * 4 + d) (length b.bytes.now) then channel_byte (slice_index b.bytes.now (u * 4 + d)) else None); lane = λ s d. 0 } };
-
-    fn channel(&self, switch: u8, destination: u8) -> Option<u8> {
-        let at = switch as usize * 4 + destination as usize;
-        if at >= self.bytes.len() {
-            return None;
-        }
-        let channel = self.bytes[at];
-        if channel < 255 { Some(channel) } else { None }
-    }
-
-    fn lane(&self, _source: u8, _destination: u8) -> u8 {
-        0
-    }
-}
 
 #[test]
 fn table_answers(rt: HostRuntime) -> Result<(), Fail> {
@@ -52,13 +26,11 @@ fn table_answers(rt: HostRuntime) -> Result<(), Fail> {
 #[test]
 fn short_lists_are_refused(rt: HostRuntime) -> Result<(), Fail> {
     let ring = Fabric::new(rt.alloc(), 4, &RING)?;
-    match Table::new(rt.alloc(), &ring, &CHANNELS, &LANES[0..15]) {
-        Ok(_) => Err(Fail::new("made")),
-        Err(fault) => {
-            assert_eq!(rt; fault, RuleFault::Call(CallFault::ShortList));
-            Ok(())
-        },
-    }
+    assert_eq!(rt;
+        Table::new(rt.alloc(), &ring, &CHANNELS, &LANES[0..15]).err(),
+        Some(RuleFault::Call(CallFault::ShortList))
+    );
+    Ok(())
 }
 
 #[test]
@@ -88,31 +60,33 @@ fn routes_of_a_grid(rt: HostRuntime) -> Result<(), Fail> {
 }
 
 #[test]
-fn sizes_of_grids(rt: HostRuntime) -> Result<(), Fail> {
+fn sizes_of_grids(rt: HostRuntime) {
     for (width, height) in [(0, 5), (1, 1), (33, 1), (65536, 65536)] {
-        match Grid::new(width, height) {
-            Ok(_) => return Err(Fail::new("made")),
-            Err(fault) => assert_eq!(rt; fault.number(), Some(20)),
-        }
+        let fault = Grid::new(width, height).err();
+        assert_eq!(rt; fault.and_then(|fault| fault.number()), Some(20));
     }
     assert!(rt; Grid::new(4, 8).is_ok());
-    Ok(())
+}
+
+// A rule of four switches that borrows these channels.
+fn rows(channels: &[u8]) -> Rows<'_> {
+    Rows {
+        switches: 4,
+        channels,
+        lane: 0,
+    }
 }
 
 #[test]
 fn endings_of_routes(rt: HostRuntime) -> Result<(), Fail> {
     let ring = Fabric::new(rt.alloc(), 4, &RING)?;
-    let rule = Borrowed { bytes: &CHANNELS };
+    let rule = rows(&CHANNELS);
     assert_eq!(rt; route_ending(&ring, &rule, 0, 2), Some(Ending::Arrives));
     assert_eq!(rt; route_ending(&ring, &rule, 2, 2), None);
     assert_eq!(rt; route_ending(&ring, &rule, 0, 4), None);
-    let half = Borrowed {
-        bytes: &CHANNELS[0..4],
-    };
+    let half = rows(&CHANNELS[0..4]);
     assert_eq!(rt; route_ending(&ring, &half, 0, 2), Some(Ending::Stops(1)));
-    let back = Borrowed {
-        bytes: &[255, 0, 0, 0, 1, 255, 2, 1],
-    };
+    let back = rows(&[255, 0, 0, 0, 1, 255, 2, 1]);
     assert_eq!(rt; route_ending(&ring, &back, 0, 3), Some(Ending::Tires));
     Ok(())
 }

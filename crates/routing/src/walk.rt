@@ -5,7 +5,7 @@ ghost use Rattle.fabric.specs.Of.{net};
 ghost use Rattle.routing.specs.Walks.{ending_of, channel_of, pair_ends, Leads};
 
 use crate::rule::RouteRule;
-use fabric::Fabric;
+use fabric::{Fabric, Pair};
 
 // One step of a route: the channel that it takes, and the switch at which that ends.
 #[derive(Clone, Copy, PartialEq, Eq, Debug)]
@@ -54,20 +54,20 @@ pub fn next_hop<R: RouteRule>(fabric: &Fabric, rule: &R, switch: u8, destination
 }
 
 // Takes the steps of a route one after the other, at most one fewer than there are switches.
-fn walk<R: RouteRule>(fabric: &Fabric, rule: &R, source: u8, destination: u8) -> Ending
-    ensures { ending_of result ≡ route_ends (net fabric.now) (R.maps rule.now) source destination }
+fn walk<R: RouteRule>(fabric: &Fabric, rule: &R, pair: Pair) -> Ending
+    ensures { ending_of result ≡ route_ends (net fabric.now) (R.maps rule.now) pair.source pair.destination }
 {
-    let mut switch = source;
+    let mut switch = pair.source;
     for _taken in 0..fabric.switch_count() - 1 {
-        if switch == destination {
+        if switch == pair.destination {
             return Ending::Arrives;
         }
-        let Some(hop) = next_hop(fabric, rule, switch, destination) else {
+        let Some(hop) = next_hop(fabric, rule, switch, pair.destination) else {
             return Ending::Stops(switch);
         };
         switch = hop.to;
     }
-    if switch == destination {
+    if switch == pair.destination {
         Ending::Arrives
     } else {
         Ending::Tires
@@ -83,9 +83,6 @@ pub fn route_ending<R: RouteRule>(
 ) -> Option<Ending>
     ensures { option_map ending_of result ≡ pair_ends (net fabric.now) (R.maps rule.now) source destination }
 {
-    let switches = fabric.switch_count();
-    if source >= switches || destination >= switches || source == destination {
-        return None;
-    }
-    Some(walk(fabric, rule, source as u8, destination as u8))
+    let pair = fabric.pair(source, destination)?;
+    Some(walk(fabric, rule, pair))
 }

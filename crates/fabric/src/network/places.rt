@@ -1,82 +1,61 @@
-ghost use Rattle.std.specs.Prelude.{◌≡◌, ◌<◌, ◌≤◌, MatchOption};
+ghost use Rattle.std.specs.Prelude.{◌≡◌, ◌<◌, ◌≤◌, length, MatchOption};
 ghost use Rattle.std.specs.List.{slice_get};
 ghost use Rattle.std.specs.Option.{option_map};
-ghost use Rattle.model.specs.Net.{count, joins};
+ghost use Rattle.model.specs.Net.{count, finish_of};
 ghost use Rattle.model.specs.Positions.{position_count, position_at};
-ghost use Rattle.fabric.specs.Channels.{plain, spot};
-ghost use Rattle.fabric.specs.Of.{net, Joined, Stands};
+ghost use Rattle.fabric.specs.Channels.{feeders, spot};
+ghost use Rattle.fabric.specs.Of.{net, Stands};
 
-use crate::channel::Channel;
 use crate::network::Fabric;
 use crate::position::Position;
 
 impl Fabric {
-    pub(super) fn channel_total(&self) -> u32
-        ensures is { result ≡ count (net self.now) }
-        ensures range { (1 ≤ result) × (result ≤ 128) }
+    // How many channels end at a switch.
+    fn feeder_count(&self, switch: u8) -> u32
+        ensures is { result ≡ length (feeders switch self.now.channels.items) }
+        ensures range { result ≤ 128 }
     {
-        self.channels.len() as u32
+        self.channels
+            .iter()
+            .filter(|channel| channel.finish == switch)
+            .count() as u32
     }
 
-    // The channel of this number.
-    pub(super) fn channel_at(&self, channel: u32) -> Option<Channel>
-        ensures is { option_map plain result ≡ slice_get (net self.now).channels channel }
-        ensures joins { MatchOption result (count (net self.now) ≤ channel) (Joined (net self.now) channel) }
+    // The number of the channel at this place among those that end at a switch, ascending.
+    fn feeder(&self, switch: u8, place: u32) -> Option<u8>
+        ensures is { result ≡ slice_get (feeders switch self.now.channels.items) place }
+        ensures ends { MatchOption result (length (feeders switch self.now.channels.items) ≤ place)
+            (λ x. (x < count (net self.now)) × (finish_of (net self.now) x ≡ switch)) }
     {
-        if channel >= self.channel_total() {
-            return None;
-        }
-        Some(self.channels[channel as usize])
+        self.channels
+            .iter()
+            .enumerate()
+            .filter(|(_, channel)| channel.finish == switch)
+            .nth(place as usize)
+            .map(|(number, _)| number as u8)
     }
 
     // How many positions a channel has; 0 for a channel that does not exist.
-    pub(super) fn count_positions(&self, channel: u32) -> u32
+    #[tactic(auto, using(crate::proofs::Feeders::count_positions, crate::proofs::Feeders::count_none))]
+    pub fn position_count(&self, channel: u32) -> u32
         ensures is { result ≡ position_count (net self.now) channel }
         ensures range { result ≤ 129 }
     {
-        let Some(served) = self.channel_at(channel) else {
-            return 0;
-        };
-        let mut count = 1;
-        for from in self.channels.as_slice() {
-            if from.finish == served.start {
-                count += 1;
-            }
-        }
-        count
+        self.channel(channel)
+            .map_or(0, |served| 1 + self.feeder_count(served.start))
     }
 
     // Position i of a channel, counted from 0: the sender slot of the switch that it leaves, then the channels that end there,
     // ascending.
-    pub(super) fn position_at(&self, channel: u32, i: u32) -> Option<Position>
+    #[tactic(auto, using(crate::proofs::Feeders::places, crate::proofs::Feeders::count_positions, crate::proofs::Feeders::count_none))]
+    pub fn position(&self, channel: u32, i: u32) -> Option<Position>
         ensures is { option_map spot result ≡ position_at (net self.now) channel i }
         ensures stands { MatchOption result (position_count (net self.now) channel ≤ i) (Stands (net self.now) channel) }
     {
-        let served = self.channel_at(channel)?;
+        let served = self.channel(channel)?;
         if i == 0 {
             return Some(Position::Sender);
         }
-        let mut ahead = i - 1;
-        for from in 0..self.channel_total() {
-            if self.channels[from as usize].finish == served.start {
-                if ahead == 0 {
-                    return Some(Position::Over(from as u8));
-                }
-                ahead -= 1;
-            }
-        }
-        None
-    }
-
-    // Whether some channel goes from the one switch to the other.
-    pub(super) fn has_channel(&self, from: u32, to: u32) -> bool
-        ensures { result ≡ joins (net self.now) from to }
-    {
-        for channel in self.channels.as_slice() {
-            if channel.start as u32 == from && channel.finish as u32 == to {
-                return true;
-            }
-        }
-        false
+        self.feeder(served.start, i - 1).map(Position::Over)
     }
 }

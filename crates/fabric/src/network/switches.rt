@@ -1,9 +1,24 @@
+ghost use Rattle.std.specs.Prelude.{◌≡◌};
+ghost use Rattle.std.specs.List.{list_any};
 ghost use Rattle.model.specs.Net.{joins};
+ghost use Rattle.fabric.specs.Channels.{plain};
 ghost use Rattle.fabric.specs.Of.{net};
 ghost use Rattle.fabric.specs.Switches;
+ghost use Rattle.fabric.specs.Switches.{goes};
 
 use crate::network::Fabric;
 use graph::Graph;
+
+impl Fabric {
+    // Whether some channel goes from the one switch to the other.
+    // Apart from `leads`, since a chain is found only where the clause has the chain's own form.
+    fn has_channel(&self, from: u32, to: u32) -> bool
+        ensures { result ≡ list_any (λ c. goes from to (plain c)) self.now.channels.items }
+    {
+        self.channels.iter().any(|channel| channel.start as u32 == from
+            && channel.finish as u32 == to)
+    }
+}
 
 // The switches of a fabric as a graph: one leads to another where some channel goes from the one to the other.
 impl Graph for Fabric {
@@ -19,6 +34,7 @@ impl Graph for Fabric {
         self.switch_count()
     }
 
+    #[tactic(auto, using(crate::proofs::Joining::joins_is))]
     fn leads(&self, from: u32, to: u32) -> bool {
         self.has_channel(from, to)
     }

@@ -1,0 +1,61 @@
+ghost use Rattle.std.specs.Prelude.{◌≡◌};
+ghost use Rattle.std.specs.Iterator.{item_count};
+ghost use Rattle.model.specs.Routes.{pairs_of};
+ghost use Rattle.fabric.specs.Of.{net};
+ghost use Rattle.fabric.specs.Pairs.{Finds, NextPair, left};
+
+use crate::network::Fabric;
+use crate::pair::Pair;
+use crate::pairs::Pairs;
+
+impl Fabric {
+    // These two switches as a pair; none where one is missing or both are the same.
+    pub fn pair(&self, source: u32, destination: u32) -> Option<Pair>
+        ensures { Finds (net self.now).switches source destination result }
+    {
+        let switches = self.switch_count();
+        if source >= switches || destination >= switches || source == destination {
+            return None;
+        }
+        Some(Pair {
+            source: source as u8,
+            destination: destination as u8,
+        })
+    }
+
+    // All pairs, by source, then destination.
+    pub fn pairs(&self) -> Pairs
+        ensures size { result.switches ≡ (net self.now).switches }
+        ensures all { left result ≡ pairs_of (net self.now).switches }
+    {
+        Pairs {
+            switches: self.switch_count() as u8,
+            cell: 0,
+        }
+    }
+}
+
+impl Iterator for Pairs {
+    type Item = Pair;
+
+    ghost next_gives = { NextPair };
+
+    ghost remaining = { item_count left };
+
+    fn next(&mut self) -> Option<Pair> {
+        let width = self.switches as u16;
+        for cell in self.cell..width * width {
+            let source = (cell / width) as u8;
+            let destination = (cell % width) as u8;
+            if source != destination {
+                self.cell = cell + 1;
+                return Some(Pair {
+                    source,
+                    destination,
+                });
+            }
+        }
+        self.cell = width * width;
+        None
+    }
+}
