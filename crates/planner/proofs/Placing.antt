@@ -3,20 +3,20 @@ use Rattle.std.proofs.Common.{◌≡◌, ℕ, ◌+◌, ◌<◌, ◌≤◌, Bool,
 use Rattle.std.specs.List.{All, AllWithin}
 use Rattle.std.proofs.lemmas.Bool.{cases_eq}
 use Rattle.std.proofs.lemmas.List.{get_or_default, set-get_or}
-use Rattle.planner.specs.declared.lane.LaneDraft.{LaneDraft}
+use Rattle.routing.specs.declared.dependencies.Dependencies.{Dependencies}
 use Rattle.planner.specs.Boards.{Sound, Refuses, Filed, PlacedIn}
 
-module _ (n : ℕ) (e : ℕ → ℕ → Bool) (was : List LaneDraft) where
+module _ (n : ℕ) (e : ℕ → ℕ → Bool) (was : List Dependencies) where
   -- The lanes below l refused the dependencies, and all stand as they were.
-  pub record Refusing (is : List LaneDraft) (l : ℕ) : Type 0 where
+  pub record Refusing (is : List Dependencies) (l : ℕ) : Type 0 where
     pub same : is ≡ was
     pub lower : AllWithin (Refuses n e) was 0 l
 
   -- What the lane that is tried must be.
-  pub sound_at : All (Sound n) was → (is : List LaneDraft) (l : ℕ) (r : LaneDraft) → Refusing is l → l < length is → Sound n (get_or is l r)
+  pub sound_at : All (Sound n) was → (is : List Dependencies) (l : ℕ) (r : Dependencies) → Refusing is l → l < length is → Sound n (get_or is l r)
   sound_at H is l r R h = subst (λ bs. Sound n (get_or bs l r)) (sym R.same) (H l r (omega (arith, ap length R.same)))
 
-  pub refusing_more : (is : List LaneDraft) (l : ℕ) (y r : LaneDraft) → Refusing is l → l < length is → Filed n e (get_or is l r) y false
+  pub refusing_more : (is : List Dependencies) (l : ℕ) (y r : Dependencies) → Refusing is l → l < length is → Filed n e (get_or is l r) y false
       → Refusing (set is l y) (l + 1)
   refusing_more is l y r R h f =
       record {
@@ -30,7 +30,7 @@ module _ (n : ℕ) (e : ℕ → ℕ → Bool) (was : List LaneDraft) where
             ];
       }
 
-  pub placing : (is : List LaneDraft) (l : ℕ) (y r : LaneDraft) → Refusing is l → l < length is → Filed n e (get_or is l r) y true
+  pub placing : (is : List Dependencies) (l : ℕ) (y r : Dependencies) → Refusing is l → l < length is → Filed n e (get_or is l r) y true
       → PlacedIn n e was (set is l y) l
   placing is l y r R h f =
       record {
@@ -42,5 +42,5 @@ module _ (n : ℕ) (e : ℕ → ℕ → Bool) (was : List LaneDraft) where
         sound = f.1;
       }
 
-  pub refusing_all : (is : List LaneDraft) (l : ℕ) → Refusing is l → length is ≤ l → All (Refuses n e) was
+  pub refusing_all : (is : List Dependencies) (l : ℕ) → Refusing is l → length is ≤ l → All (Refuses n e) was
   refusing_all is l R h = λ k d hk. R.lower k d (omega arith) (omega (arith, ap length R.same))

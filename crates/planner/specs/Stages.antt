@@ -1,21 +1,16 @@
 -- What the stages of planning answer.
-use Rattle.std.specs.Prelude.{◌≡◌, ℕ, ◌*◌, cond, List, [], ◌∷◌, is_some, Some, None, Ok, Err, Option, Result, ◌==◌}
-use Rattle.model.specs.Net.{Net}
-use Rattle.model.specs.Rules.{Rule}
-use Rattle.model.specs.Routes.{route_ends}
-use Rattle.model.specs.Refusals.{Refusal, refuse, topology_layer}
-use Rattle.model.specs.Planner.{Planned, tables, refused, hops as hop_count, ending_refusal}
+use Rattle.std.specs.Prelude.{◌≡◌, ℕ, ◌*◌, List, Some, None, Ok, Err, Option, Result}
+use Rattle.model.specs.Routes.{Ending}
+use Rattle.model.specs.Refusals.{Refusal}
+use Rattle.model.specs.Planner.{Planned, tables, refused, ending_refusal}
 use Rattle.arrayvec.specs.ArrayVec.{ArrayVec, array_vec_len}
 use Rattle.planner.specs.Faults.{topology_refusal}
 use Rattle.planner.specs.declared.fault.TopologyFault.{TopologyFault}
 
--- The refusal of switches s and d where no path joins them; none where they are the same.
-abbrev pub path_fault : Net → ℕ → ℕ → Option Refusal
-path_fault net s d = cond (s == d) None (cond (is_some (hop_count net s d)) None (Some (refuse topology_layer 9 (s ∷ d ∷ []))))
-
--- The refusal of switches s and d by how their route ends; none where they are the same.
-abbrev pub route_fault : Net → Rule → ℕ → ℕ → Option Refusal
-route_fault net rule s d = cond (s == d) None (ending_refusal s d (route_ends net rule s d))
+-- The refusal of switches s and d by how their route ends, if they are a pair.
+abbrev pub ending_fault : ℕ → ℕ → Option Ending → Option Refusal
+ending_fault s d None = None
+ending_fault s d (Some e) = ending_refusal s d e
 
 -- A test: passed where nothing is refused, else the refusal.
 abbrev pub Judges : {F : Type 0} → (F → Option Refusal) → Option Refusal → Result (Unit {0}) F → Type 0

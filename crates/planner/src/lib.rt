@@ -6,9 +6,7 @@ mod dependencies;
 mod draft;
 pub mod fault;
 mod filing;
-mod given;
 mod judging;
-mod lane;
 mod planning;
 mod rows;
 

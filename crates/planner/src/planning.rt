@@ -1,44 +1,41 @@
 ghost use Rattle.std.specs.Prelude.{◌≡◌, ◌*◌, ◌≤◌, true, ◌++◌, length, drop, Some, None};
 ghost use Rattle.std.specs.Option.{option_map};
+ghost use Rattle.model.specs.Planner.{copied};
 ghost use Rattle.fabric.specs.Faults.{call_refusal};
 ghost use Rattle.fabric.specs.Of.{net};
-ghost use Rattle.planner.specs.Plans.{given_long, call_test, table_of, table_refusal, Drafted, Plans};
+ghost use Rattle.planner.specs.Plans.{list_test, table_of, table_refusal, Drafted, Plans};
 ghost use Rattle.planner.specs.Stages.{Judges, Drafts};
 
 use crate::draft::Draft;
 use crate::fault::TopologyFault;
 use crate::filing::file_pairs;
-use crate::given::copy_given;
 use crate::judging::{judge_paths, judge_routes};
 use crate::rows::HopRows;
-use fabric::{CallFault, Fabric};
+use fabric::{CallFault, Fabric, LaneCount};
+use routing::table::cell;
 
-// Refusals 14 and 13.
-fn judge_call(
+// Refusal 13: a table that is too short.
+fn judge_lists(
     fabric: &Fabric,
-    lanes: u32,
     given: Option<&[u8]>,
     channels: &[u8],
     lane_table: &[u8],
 ) -> Result<(), CallFault>
-    ensures { Judges call_refusal (call_test (net fabric.now).switches lanes (option_map (λ t. t.now) given.entry) (length channels.now) (length lane_table.now)) result }
+    ensures { Judges call_refusal (list_test (net fabric.now).switches (option_map (λ t. t.now) given.entry) (length channels.now) (length lane_table.now)) result }
 {
-    if lanes < 1 || lanes > 8 {
-        return Err(CallFault::LaneCount);
-    }
     let switches = fabric.switch_count() as usize;
     let cells = switches * switches;
-    if channels.len() < cells || lane_table.len() < cells {
-        return Err(CallFault::ShortList);
-    }
-    if given.is_some_and(|table| table.len() < cells) {
+    if channels.len() < cells
+        || lane_table.len() < cells
+        || given.is_some_and(|table| table.len() < cells)
+    {
         return Err(CallFault::ShortList);
     }
     Ok(())
 }
 
 // The channels one hop nearer, if every pair has a path.
-fn draft_shortest(fabric: &Fabric) -> Result<Draft, TopologyFault>
+fn draft_shortest(fabric: &Fabric) -> Result<Draft<'_>, TopologyFault>
     ensures { Drafts (table_refusal (net fabric.now) None) (Drafted (net fabric.now) (table_of (net fabric.now) None)) result }
 {
     let rows = HopRows::measure(fabric);
@@ -46,19 +43,28 @@ fn draft_shortest(fabric: &Fabric) -> Result<Draft, TopologyFault>
     Ok(rows.shortest())
 }
 
+// The given channels, with none on the diagonal.
+fn copy_given<'a>(fabric: &'a Fabric, given: &[u8]) -> Draft<'a>
+    ensures on { result.fabric.now ≡ fabric.now }
+    ensures table { result.cells.items ≡ copied (net fabric.now).switches given.now }
+{
+    let switches = fabric.switch_count() as u8;
+    Draft::of(fabric, |pair| {
+        cell(given, switches, pair.source, pair.destination)
+    })
+}
+
 // The given channels, if every route arrives.
-fn draft_given(fabric: &Fabric, given: &[u8]) -> Result<Draft, TopologyFault>
-    requires { (net fabric.now).switches * (net fabric.now).switches ≤ length given.now }
+fn draft_given<'a>(fabric: &'a Fabric, given: &[u8]) -> Result<Draft<'a>, TopologyFault>
     ensures { Drafts (table_refusal (net fabric.now) (Some given.now)) (Drafted (net fabric.now) (table_of (net fabric.now) (Some given.now))) result }
 {
     let draft = copy_given(fabric, given);
-    judge_routes(fabric, &draft)?;
+    judge_routes(&draft)?;
     Ok(draft)
 }
 
 // The table to file by: the given one, or else the channels one hop nearer.
-fn draft_table(fabric: &Fabric, given: Option<&[u8]>) -> Result<Draft, TopologyFault>
-    requires { given_long (net fabric.now).switches (option_map (λ t. t.now) given) ≡ true }
+fn draft_table<'a>(fabric: &'a Fabric, given: Option<&[u8]>) -> Result<Draft<'a>, TopologyFault>
     ensures { Drafts (table_refusal (net fabric.now) (option_map (λ t. t.now) given.entry)) (Drafted (net fabric.now) (table_of (net fabric.now) (option_map (λ t. t.now) given.entry))) result }
 {
     match given {
@@ -88,9 +94,10 @@ pub fn plan(
 ) -> Result<(), TopologyFault>
     ensures { Plans (net fabric.now) lanes (option_map (λ t. t.now) given.entry) channels.old channels.new lane_table.old lane_table.new result }
 {
-    judge_call(fabric, lanes, given, channels, lane_table)?;
+    let lanes = LaneCount::try_from(lanes)?;
+    judge_lists(fabric, given, channels, lane_table)?;
     let draft = draft_table(fabric, given)?;
-    let filed = file_pairs(fabric, &draft, lanes)?;
+    let filed = file_pairs(&draft, lanes)?;
     write_front(&draft.cells, channels);
     write_front(&filed, lane_table);
     Ok(())

@@ -32,12 +32,12 @@ impl<'a> HopRows<'a> {
     }
 
     // The fewest channels from one switch to another; none where there is no path.
-    pub(crate) fn hops(&self, from: u32, to: u32) -> Option<u32>
+    pub(crate) fn hops(&self, from: u8, to: u8) -> Option<u32>
         requires from { from < (net self.now.fabric.now).switches }
         requires to { to < (net self.now.fabric.now).switches }
         ensures { result ≡ hops (net self.now.fabric.now) from to }
     {
         let rows = &self.rows;
-        rows[from as usize].to(to)
+        rows[from as usize].to(to as u32)
     }
 }

@@ -1,100 +1,43 @@
-use Rattle.std.proofs.Common.{ℕ, ◌+◌, ◌-◌, true, sym, ap, ◌∙◌, subst, arith}
-use Rattle.model.specs.Routes.{hop}
+use Rattle.std.proofs.Common.{sym, refl, ap, ◌∙◌, subst, arith}
+use Rattle.model.specs.Net.{count}
 use Rattle.fabric.specs.Of.{net}
-use Rattle.planner.specs.Cells.{edge_at, Acyclic, Reach, Admits}
-use Rattle.planner.specs.Drafts.{rule_of}
-use Rattle.planner.proofs.Stepping.{walk_stop, walk_none}
-use Rattle.planner.proofs.Adding.{noted_first, noted_more, noted_closes, noted_end, noted_nothing}
+use Rattle.fabric.specs.declared.network.Fabric.{Fabric}
+use Rattle.routing.specs.Dependencies.{leads}
+use Rattle.planner.specs.Cycles.{Acyclic}
+use Rattle.planner.proofs.Adding.{noted_more, noted_closes, noted_all}
 use Rattle.planner.proofs.dependencies.add_route.Goals as goal
 
-pub returns-in_default : goal.returns-in_default
-returns-in_default c =
-    record {
-      size = c.requires.size;
-      tried =
-          noted_nothing (net c.args.fabric.now) (rule_of c.args.draft.now) c.args.source c.args.destination
-          c.args.lane.now.cells (sym c.in_default.ensures.is) c.requires.free;
-    }
-
-pub loop-taken-init : goal.loop-taken-init
-loop-taken-init c =
-    let N = net c.args.fabric.now in
-    let s = c.in-Some.ensures in (
-      noted_first N (rule_of c.args.draft.now) c.args.source c.args.destination (N.switches - 2 - 0) c.in-Some.first.channel
-          c.args.lane.now.cells (omega arith) (sym s.is) s.leads.there c.requires.free,
-      s.leads.ends,
-      c.requires.size,
-    )
-
-pub returns-in_default-next_hop : goal.returns-in_default-next_hop
-returns-in_default-next_hop c =
-    let N = net c.args.fabric.now in
-    let M = rule_of c.args.draft.now in
-    let d : ℕ = c.args.destination in
-    let i = c.loop-taken.invariant in
-    record {
-      size = i.2;
-      tried =
-          noted_end N M c.args.source d (N.switches - 2 - c.loop-taken._taken) c.loop-taken.last.channel c.args.lane.now.cells
-          c.loop-taken.lane.cells i.0
-          (walk_stop N M (N.switches - 2 - c.loop-taken._taken) _ d
-          (ap (λ (u : ℕ). hop N M u d) (sym i.1) ∙ sym c.in_default-next_hop.ensures.is));
-    }
+pub loop-step-init : goal.loop-step-init
+loop-step-init c =
+    rw c.into_iter-step-iterator.ensures.into_iter_gives (record {
+      on = c.of-step-items.ensures.of;
+      noted = rw c.of-step-items.ensures.all (record { each = λ b x. refl; sound = c.requires });
+    })
 
 pub admit-requires : goal.admit-requires
 admit-requires c =
-    let i = c.loop-taken.invariant in
-    let t = i.0.there in
-    let u = c.in-Some-next_hop.ensures.leads.there in
+    let i = c.loop-step.invariant in
+    let e = c.in-Some.ensures.steps in
+    let q = ap (λ (f : Fabric). count (net f)) i.on in
     record {
-      from = omega (arith, i.2);
-      to = omega (arith, i.2);
-      free = subst (λ (m : ℕ). Acyclic (edge_at c.loop-taken.lane.cells) m) (sym i.2) i.0.free;
+      from = omega (arith, e.2.from, i.noted.sound.0, q);
+      to = omega (arith, e.2.to, i.noted.sound.0, q);
+      apart = e.2.apart;
+      free = subst (Acyclic (leads c.loop-step.lane)) (sym i.noted.sound.0) i.noted.sound.1;
     }
 
 pub returns-then-not-admit : goal.returns-then-not-admit
 returns-then-not-admit c =
-    let N = net c.args.fabric.now in
-    let M = rule_of c.args.draft.now in
-    let d : ℕ = c.args.destination in
-    let i = c.loop-taken.invariant in
-    let s = c.in-Some-next_hop.ensures in
-    record {
-      size = c.if-not-admit.ensures.size ∙ i.2;
-      tried =
-          noted_closes N M c.args.source d (N.switches - 2 - c.loop-taken._taken) (N.switches - 2 - (c.loop-taken._taken + 1))
-          c.loop-taken.last.channel c.in-Some-next_hop.next.channel c.args.lane.now.cells c.loop-taken.lane.cells i.0
-          s.leads.there (omega arith) (ap (λ (u : ℕ). hop N M u d) (sym i.1) ∙ sym s.is)
-          (subst (λ (m : ℕ). Reach (edge_at c.loop-taken.lane.cells) m c.in-Some-next_hop.next.channel c.loop-taken.last.channel)
-          i.2 c.if-not-admit.ensures.admits);
-    }
+    let i = c.loop-step.invariant in
+    let e = c.in-Some.ensures.steps in
+    let q = ap (λ (f : Fabric). count (net f)) i.on in
+    noted_closes _ _ _ _ c.admit.new.lane c.in-Some.step _ (omega (arith, e.2.from, q)) (omega (arith, e.2.to, q)) (rw e.1 at i.noted) c.if-not-admit.ensures
 
-pub loop-taken-preserved : goal.loop-taken-preserved
-loop-taken-preserved c =
-    let N = net c.args.fabric.now in
-    let M = rule_of c.args.draft.now in
-    let d : ℕ = c.args.destination in
-    let i = c.loop-taken.invariant in
-    let s = c.in-Some-next_hop.ensures in (
-      noted_more N M c.args.source d (N.switches - 2 - c.loop-taken._taken) (N.switches - 2 - (c.loop-taken._taken + 1))
-          c.loop-taken.last.channel c.in-Some-next_hop.next.channel c.args.lane.now.cells c.loop-taken.lane.cells
-          c.admit.new.lane.cells i.0 s.leads.there (omega arith) (ap (λ (u : ℕ). hop N M u d) (sym i.1) ∙ sym s.is)
-          (subst
-          (λ (m : ℕ). Admits m c.loop-taken.last.channel c.in-Some-next_hop.next.channel c.loop-taken.lane.cells c.admit.new.lane.cells true)
-          i.2 c.if-not-admit.ensures.admits),
-      s.leads.ends,
-      c.if-not-admit.ensures.size ∙ i.2,
-    )
+pub loop-step-preserved : goal.loop-step-preserved
+loop-step-preserved c =
+    let i = c.loop-step.invariant in
+    let e = c.in-Some.ensures.steps in
+    record { on = e.0 ∙ i.on; noted = noted_more _ _ _ _ _ c.in-Some.step _ (rw e.1 at i.noted) c.if-not-admit.ensures }
 
 pub returns : goal.returns
-returns c =
-    let N = net c.args.fabric.now in
-    let M = rule_of c.args.draft.now in
-    let i = c.loop-taken.invariant in
-    record {
-      size = i.2;
-      tried =
-          noted_end N M c.args.source c.args.destination (N.switches - 2 - c.loop-taken._taken) c.loop-taken.last.channel
-          c.args.lane.now.cells c.loop-taken.lane.cells i.0
-          (walk_none N M (N.switches - 2 - c.loop-taken._taken) _ c.args.destination (omega arith));
-    }
+returns c = noted_all _ _ _ _ (rw c.in-None.ensures.steps.1 at c.loop-step.invariant.noted)
