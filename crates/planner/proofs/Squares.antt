@@ -1,18 +1,16 @@
 -- A square of n rows of n cells is one list of n × n cells: cell i stands in row i / n and column i % n.
-use Rattle.std.proofs.Common.{◌≡◌, ℕ, zero, suc, ◌+◌, ◌*◌, ◌/◌, ◌%◌, ◌<◌, ◌≤◌, Bool, true, false, eqb, List, [], ◌∷◌, ◌++◌, map, length, get_or, Some, None, Option, MatchOption, sym, refl, ap, ◌∙◌, inl, inr, arith}
+use Rattle.std.proofs.Common.{◌≡◌, ℕ, zero, suc, ◌+◌, ◌*◌, ◌/◌, ◌%◌, ◌<◌, ◌≤◌, Bool, true, false, eqb, List, [], ◌∷◌, ◌++◌, map, length, get_or, cond, if◌then◌else◌, ◌&&◌, not, ltb, sym, refl, ap, ◌∙◌, subst, inl, inr, arith}
 use Rattle.std.specs.List.{range_with_len}
 use Rattle.std.proofs.lemmas.Nat.{div-add-mod'}
-use Rattle.std.proofs.lemmas.List.{same_lists, get_or-map, length-map}
+use Rattle.std.proofs.lemmas.List.{same_lists, get_or-map, length-map, length_push}
 use Rattle.std.proofs.lemmas.List.FromFn.{get_or-range_with_len, get_or-map-range_with_len, length-map-range_with_len, map-range_with_len_more}
-use Rattle.std.proofs.lemmas.Bool.{cases_eq, eq-eqb, ne_eqb, false≢true}
+use Rattle.std.proofs.lemmas.Bool.{cases_eq, eq-eqb, ne_eqb, and_right, cond-true, cond-false}
 use Rattle.std.proofs.Math.Nat.{mod-lt}
 use Rattle.model.specs.Lists.{up_from, below}
 use Rattle.model.specs.Net.{is_pair}
 use Rattle.model.specs.Planner.{square}
 use Rattle.model.proofs.Members.{length-up_from}
-use Rattle.model.proofs.Dependencies.{pair_parts}
 use Rattle.model.proofs.Squares.{get_d_rows, length-square}
-use Rattle.fabric.specs.Pairs.{Finds}
 use Rattle.fabric.specs.declared.pair.Pair.{Pair}
 use Rattle.fabric.proofs.Pairing.{source_below, cell_pair}
 use Rattle.planner.specs.Rows.{Gives}
@@ -47,30 +45,49 @@ module _ (n : ℕ) (f : ℕ → ℕ → ℕ) where
       ∙ ap (byte u) column
 
   -- Cell by cell that is the whole square.
-  pub square_is : 1 ≤ n → map at (range_with_len 0 (n * n)) ≡ square n f
+  square_is : 1 ≤ n → map at (range_with_len 0 (n * n)) ≡ square n f
   square_is h =
       let long : length (map at (range_with_len 0 (n * n))) ≡ n * n = length-map-range_with_len at 0 (n * n) in
       same_lists (map at (range_with_len 0 (n * n))) (square n f) (long ∙ sym (length-square n f))
       (λ k d l.
       get_or-map-range_with_len at 0 (n * n) k k d (omega (arith, long)) (omega arith) ∙ sym (square_cell k d h (omega (arith, long))))
 
-  module _ (post : Pair → ℕ → Type 0) (G : Gives n post f) where
-    -- What is answered of the pair of a cell, or else 255, is its byte.
-    found : (i r : ℕ) (o : Option Pair) → 1 ≤ n → i < n * n → Finds n (i / n) (i % n) o → MatchOption o (r ≡ 255) (λ p. post p r) → r ≡ at i
-    found i r None h l p m =
-        elim (cases_eq (i / n) (i % n)) [
-          | inl e ↦ m ∙ sym (ap (λ (b : Bool). elim b as (λ _. ℕ) [ true ↦ 255 | false ↦ f (i / n) (i % n) ]) (eq-eqb (i / n) (i % n) e))
-          | inr ne ↦ absurd (false≢true (sym p ∙ cell_pair n i h l ne))
-        ]
-    found i r (Some x) h l p m =
-        let ne = (pair_parts n (i / n) (i % n) p.0).2 in
-        G x r (ap (λ (s : ℕ). is_pair n s x.destination) p.1 ∙ ap (is_pair n (i / n)) p.2 ∙ p.0) m
-        ∙ ap (λ (s : ℕ). f s x.destination) p.1
-        ∙ ap (f (i / n)) p.2
-        ∙ sym (ap (λ (b : Bool). elim b as (λ _. ℕ) [ true ↦ 255 | false ↦ f (i / n) (i % n) ]) (ne_eqb (i / n) (i % n) ne))
+  -- The byte of a cell is that of its switches, if they are a pair, and else 255.
+  pair_byte : (i : ℕ) → 1 ≤ n → i < n * n → (if is_pair n (i / n) (i % n) then f (i / n) (i % n) else 255) ≡ at i
+  pair_byte i h l =
+      elim (cases_eq (i / n) (i % n)) [
+        | inl e ↦
+            let same = eq-eqb (i / n) (i % n) e in
+            let none : is_pair n (i / n) (i % n) ≡ false = and_right (ltb (i / n) n && ltb (i % n) n) (not (eqb (i / n) (i % n))) (ap not same) in
+            cond-false (is_pair n (i / n) (i % n)) (f (i / n) (i % n)) 255 none ∙ sym (ap (λ (b : Bool). elim b as (λ _. ℕ) [ true ↦ 255 | false ↦ f (i / n) (i % n) ]) same)
+        | inr ne ↦
+            cond-true (is_pair n (i / n) (i % n)) (f (i / n) (i % n)) 255 (cell_pair n i h l ne)
+            ∙ sym (ap (λ (b : Bool). elim b as (λ _. ℕ) [ true ↦ 255 | false ↦ f (i / n) (i % n) ]) (ne_eqb (i / n) (i % n) ne))
+      ]
 
-    pub filled_more : (i r : ℕ) (o : Option Pair) (xs ys : List ℕ) → 1 ≤ n → i < n * n → Finds n (i / n) (i % n) o → MatchOption o (r ≡ 255) (λ p. post p r)
-        → ys ≡ xs ++ r ∷ [] → xs ≡ map at (range_with_len 0 i) → ys ≡ map at (range_with_len 0 (i + 1))
-    filled_more i r o xs ys h l p m e q =
-        e ∙ ap (λ zs. zs ++ r ∷ []) q ∙ ap (λ (z : ℕ). map at (range_with_len 0 i) ++ z ∷ []) (found i r o h l p m)
-        ∙ sym (map-range_with_len_more at 0 i i (omega arith))
+-- A list has the bytes of the cells below i, whatever the answers for pairs are.
+pub record Filled (n : ℕ) (post : Pair → ℕ → Type 0) (i : ℕ) (xs : List ℕ) : Type 0 where
+  pub so_far : (f : ℕ → ℕ → ℕ) → Gives n post f → xs ≡ map (at n f) (range_with_len 0 i)
+  pub long : length xs ≡ i
+
+pub filled_more : (n r i v : ℕ) (post : Pair → ℕ → Type 0) (xs ys : List ℕ) → Filled n post i xs → ys ≡ xs ++ v ∷ []
+    → ((f : ℕ → ℕ → ℕ) → Gives n post f → v ≡ (if is_pair n (i / r) (i % r) then f (i / r) (i % r) else 255))
+    → r ≡ n → 1 ≤ r → i < r * r → Filled n post (i + 1) ys
+filled_more n r i v post xs ys F e p q h l =
+    let inside : i < n * n = omega (arith, ap (λ (k : ℕ). k * k) q) in
+    record {
+      so_far = λ f G.
+          let here : v ≡ (if is_pair n (i / n) (i % n) then f (i / n) (i % n) else 255) =
+          p f G ∙ ap (λ (k : ℕ). if is_pair n (i / k) (i % k) then f (i / k) (i % k) else 255) q in
+          e
+          ∙ ap (λ zs. zs ++ v ∷ []) (F.so_far f G)
+          ∙ ap (λ (z : ℕ). map (at n f) (range_with_len 0 i) ++ z ∷ []) (here ∙ pair_byte n f i (omega arith) inside)
+          ∙ sym (map-range_with_len_more (at n f) 0 i i (omega arith));
+      long = ap length e ∙ length_push xs v ∙ ap (λ (k : ℕ). k + 1) F.long;
+    }
+
+pub filled_all : (n r i : ℕ) (post : Pair → ℕ → Type 0) (f : ℕ → ℕ → ℕ) (xs : List ℕ) → Filled n post i xs → Gives n post f → r ≡ n → 1 ≤ r → i ≤ r * r → r * r ≤ i
+    → xs ≡ square n f
+filled_all n r i post f xs F G q h a b =
+    let e : i ≡ n * n = omega (arith, ap (λ (k : ℕ). k * k) q) in
+    F.so_far f G ∙ ap (λ (k : ℕ). map (at n f) (range_with_len 0 k)) e ∙ square_is n f (omega arith)

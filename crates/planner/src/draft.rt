@@ -1,5 +1,6 @@
-ghost use Rattle.std.specs.Prelude.{◌≡◌, ℕ, ◌*◌, []};
+ghost use Rattle.std.specs.Prelude.{◌≡◌, ℕ, ◌*◌, if◌then◌else◌, []};
 ghost use Rattle.arrayvec.specs.ArrayVec.{array_vec_len};
+ghost use Rattle.model.specs.Net.{is_pair};
 ghost use Rattle.model.specs.Planner.{square};
 ghost use Rattle.model.specs.Rules.{table_rule};
 ghost use Rattle.fabric.specs.Of.{net};
@@ -21,6 +22,17 @@ pub(crate) struct Draft<'a> {
     ghost full: { array_vec_len cells ≡ (net fabric.now).switches * (net fabric.now).switches },
 }
 
+// The byte of two switches, if they are a pair.
+fn byte_at<F: Fn(Pair) -> u8>(fabric: &Fabric, byte: &F, source: u32, destination: u32) -> u8
+    requires { TakesPairs (net fabric.now).switches (F.pre byte.now) }
+    ensures { (f : ℕ → ℕ → ℕ) → Gives (net fabric.now).switches (F.post byte.now) f → result ≡ (if is_pair (net fabric.now).switches source destination then f source destination else 255) }
+{
+    match fabric.pair(source, destination) {
+        Some(pair) => byte(pair),
+        None => NONE,
+    }
+}
+
 impl<'a> Draft<'a> {
     // The table with this byte for each pair, and none on the diagonal.
     pub(crate) fn of<F: Fn(Pair) -> u8>(fabric: &'a Fabric, byte: F) -> Draft<'a>
@@ -31,8 +43,7 @@ impl<'a> Draft<'a> {
         let switches = fabric.switch_count();
         let mut cells = ArrayVec::new();
         for place in 0..switches * switches {
-            let pair = fabric.pair(place / switches, place % switches);
-            cells.push(pair.map_or(NONE, &byte));
+            cells.push(byte_at(fabric, &byte, place / switches, place % switches));
         }
         Draft { fabric, cells }
     }
