@@ -33,23 +33,16 @@ fn push_rows(ends: &mut Vec<u8>, width: u8, high: u8, count: u8, step: u8) -> Re
 }
 
 impl Grid {
-    // A grid of these sides.
-    fn of(width: u32, height: u32) -> Grid
-        requires { IsGrid width height }
-        ensures { (result.width ≡ width) × (result.height ≡ height) }
-    {
-        Grid {
-            width: width as u8,
-            height: height as u8,
-        }
-    }
-
     // A grid of these sides, if it has 2 to 32 switches.
+    #[tactic(auto, using(crate::proofs::Sides::short_sides))]
     pub fn new(width: u32, height: u32) -> Result<Grid, RuleFault>
         ensures { MakesGrid width height result }
     {
         grid_size(width, height)?;
-        Ok(Grid::of(width, height))
+        Ok(Grid {
+            width: width as u8,
+            height: height as u8,
+        })
     }
 
     // Its links: those along the rows, then those along the columns.
