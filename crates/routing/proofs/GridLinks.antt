@@ -7,6 +7,8 @@ use Rattle.model.specs.Cabling.{cabling_refusal}
 use Rattle.model.specs.Rules.{grid_ends}
 use Rattle.model.proofs.Members.{all_of_at, is_in-up_from}
 use Rattle.fabric.specs.Grids.{IsGrid}
+use Rattle.fabric.specs.Faults.{fabric_refusal}
+use Rattle.fabric.specs.declared.fault.FabricFault.{FabricFault}
 use Rattle.routing.proofs.Sides.{short_sides}
 
 abbrev passes : Option Refusal → Bool
@@ -32,8 +34,7 @@ grid_cabled w h g =
     let size : (leb 2 (w * h) && leb (w * h) 32) ≡ true = and_from _ _ (le-leb 2 (w * h) g.2) (le-leb (w * h) 32 g.3) in
     pass_none _ (sym (cond-true _ _ _ size) ∙ at-h)
 
--- so what would refuse them is nothing
-pub grid_passes : (w h n : ℕ) (ends : List ℕ) (r : Option Refusal) → IsGrid w h → n ≡ w * h → ends ≡ grid_ends w h
-    → r ≡ cabling_refusal n ends → r ≡ None
-grid_passes w h n ends r g p q e =
-    e ∙ ap (λ (k : ℕ). cabling_refusal k ends) p ∙ ap (λ (xs : List ℕ). cabling_refusal (w * h) xs) q ∙ grid_cabled w h g
+-- so a fault of its fabric is no refusal
+pub grid_fault : (e : FabricFault) (w h n : ℕ) (ends : List ℕ) → fabric_refusal e ≡ cabling_refusal n ends → n ≡ w * h → ends ≡ grid_ends w h → IsGrid w h
+    → fabric_refusal e ≡ None
+grid_fault e w h n ends q a b g = let c = grid_cabled w h g in cc

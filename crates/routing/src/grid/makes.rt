@@ -62,19 +62,11 @@ impl Grid {
     }
 
     // The fabric of its links, which nothing refuses.
-    fn cabled(&self, heap: Global, ends: &[u8]) -> Result<Fabric, RuleFault>
-        requires { ends.now ≡ grid_ends self.now.width self.now.height }
-        ensures { MakesGridFabric self.now result }
-    {
-        let fabric = Fabric::new(heap, self.switch_count() as u32, ends)?;
-        Ok(fabric)
-    }
-
-    // Its fabric.
+    #[tactic(auto, using(crate::proofs::GridLinks::grid_fault))]
     pub fn fabric(&self, heap: Global) -> Result<Fabric, RuleFault>
         ensures { MakesGridFabric self.now result }
     {
         let ends = self.ends(heap)?;
-        self.cabled(heap, &ends)
+        Ok(Fabric::new(heap, self.switch_count() as u32, &ends)?)
     }
 }
