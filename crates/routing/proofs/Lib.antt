@@ -1,6 +1,6 @@
 pub mod Cells
 pub mod Sides
-pub mod Joining
+pub mod GridEnds
 pub mod GridLinks
 pub mod Walking
 pub mod Stepping
