@@ -1,5 +1,5 @@
 -- The ends of the links of a grid, one after the other.
-use Rattle.std.proofs.Common.{◌≡◌, ℕ, zero, suc, ◌+◌, ◌-◌, ◌*◌, ◌<◌, ◌≤◌, List, [], ◌∷◌, ◌++◌, sym, refl, ap, ◌∙◌, append_assoc, add-one, arith}
+use Rattle.std.proofs.Common.{◌≡◌, ℕ, zero, suc, ◌+◌, ◌-◌, ◌*◌, ◌<◌, ◌≤◌, List, [], ◌∷◌, ◌++◌, sym, refl, ap, ◌∙◌, append_assoc, add-zero, zero-add, arith}
 use mathlib.Core.Path.{fun_ext}
 use Rattle.std.proofs.Math.Nat.{mul-sub}
 use Rattle.model.specs.Lists.{up_from, below, joined}
@@ -11,13 +11,11 @@ pub link_more : (first end step : ℕ) → first < end → links first end step 
 unfolding links
 link_more first end step h =
     let s : end - first ≡ suc (end - (first + 1)) = omega arith in
-    ap (λ (k : ℕ). joined (λ s. s ∷ ((s + step) ∷ [])) (up_from k first)) s
-    ∙ ap (λ (k : ℕ). first ∷ ((first + step) ∷ joined (λ s. s ∷ ((s + step) ∷ [])) (up_from (end - (first + 1)) k))) (sym (add-one first))
+    let t : suc first ≡ first + 1 = omega arith in rw s (cc)
 
 pub link_none : (first end step : ℕ) → end ≤ first → links first end step ≡ []
 unfolding links
-link_none first end step h =
-    let z : end - first ≡ 0 = omega arith in ap (λ (k : ℕ). joined (λ s. s ∷ ((s + step) ∷ [])) (up_from k first)) z
+link_none first end step h = let z : end - first ≡ 0 = omega arith in rw z
 
 pub ruleset links_are = (link_more, link_none)
 
@@ -26,73 +24,62 @@ pub row_more : (w h y : ℕ) → y < h → row_links w h y ≡ links (y * w) (y 
 unfolding row_links
 row_more w h y l =
     let s : h - y ≡ suc (h - (y + 1)) = omega arith in
-    ap (λ (k : ℕ). joined (λ y. links (y * w) (y * w + w - 1) 1) (up_from k y)) s
-    ∙ ap (λ (k : ℕ). links (y * w) (y * w + w - 1) 1 ++ joined (λ y. links (y * w) (y * w + w - 1) 1) (up_from (h - (y + 1)) k)) (sym (add-one y))
+    let t : suc y ≡ y + 1 = omega arith in rw s (cc)
 
 pub row_none : (w h y : ℕ) → h ≤ y → row_links w h y ≡ []
 unfolding row_links
-row_none w h y l =
-    let z : h - y ≡ 0 = omega arith in ap (λ (k : ℕ). joined (λ y. links (y * w) (y * w + w - 1) 1) (up_from k y)) z
+row_none w h y l = let z : h - y ≡ 0 = omega arith in rw z
 
 -- what is joined from a + i on, counted from i on
 shifted : (f : ℕ → List ℕ) (a k i : ℕ) → joined f (up_from k (a + i)) ≡ joined (λ x. f (a + x)) (up_from k i)
 shifted f a zero i = refl
 shifted f a (suc k) i =
     let e : suc (a + i) ≡ a + suc i = omega arith in
-    ap (λ (j : ℕ). f (a + i) ++ joined f (up_from k j)) e ∙ ap (λ (xs : List ℕ). f (a + i) ++ xs) (shifted f a k (suc i))
+    let more = shifted f a k (suc i) in cc
 
 -- and cut after the first k
 cut_at : (f : ℕ → List ℕ) (k m i : ℕ) → joined f (up_from (k + m) i) ≡ joined f (up_from k i) ++ joined f (up_from m (i + k))
-cut_at f zero m i =
-    let e : 0 + m ≡ m = omega arith in
-    let q : i ≡ i + 0 = omega arith in ap (λ (j : ℕ). joined f (up_from j i)) e ∙ ap (λ (j : ℕ). joined f (up_from m j)) q
+cut_at f zero m i = rw (zero-add, add-zero)
 cut_at f (suc k) m i =
     let e : suc k + m ≡ suc (k + m) = omega arith in
     let q : suc i + k ≡ i + suc k = omega arith in
-    ap (λ (j : ℕ). joined f (up_from j i)) e ∙ ap (λ (xs : List ℕ). f i ++ xs) (cut_at f k m (suc i))
-    ∙ ap (λ (j : ℕ). f i ++ (joined f (up_from k (suc i)) ++ joined f (up_from m j))) q
-    ∙ sym (append_assoc (f i) (joined f (up_from k (suc i))) (joined f (up_from m (i + suc k))))
+    let more = cut_at f k m (suc i) in
+    rw (e, append_assoc) (cc)
 
 -- row by row of w
 by_rows : (f : ℕ → List ℕ) (w k i : ℕ) → joined f (up_from (k * w) (i * w)) ≡ joined (λ y. joined (λ x. f (y * w + x)) (below w)) (up_from k i)
-by_rows f w zero i = let z : 0 * w ≡ 0 = omega arith in ap (λ (j : ℕ). joined f (up_from j (i * w))) z
+by_rows f w zero i = let z : 0 * w ≡ 0 = omega arith in rw z
 by_rows f w (suc k) i =
     let e : suc k * w ≡ w + k * w = omega arith in
     let q : i * w + w ≡ suc i * w = omega arith in
     let z : i * w ≡ i * w + 0 = omega arith in
-    ap (λ (j : ℕ). joined f (up_from j (i * w))) e ∙ cut_at f w (k * w) (i * w)
-    ∙ ap (λ (j : ℕ). joined f (up_from w (i * w)) ++ joined f (up_from (k * w) j)) q
-    ∙ ap (λ (xs : List ℕ). joined f (up_from w (i * w)) ++ xs) (by_rows f w k (suc i))
-    ∙ ap (λ (xs : List ℕ). xs ++ joined (λ y. joined (λ x. f (y * w + x)) (below w)) (up_from k (suc i)))
-    (ap (λ (j : ℕ). joined f (up_from w j)) z ∙ shifted f (i * w) w 0)
+    let cut = cut_at f w (k * w) (i * w) in
+    let here = shifted f (i * w) w 0 in
+    let more = by_rows f w k (suc i) in
+    cc
 
 row_is : (w y : ℕ) → links (y * w) (y * w + w - 1) 1 ≡ joined (λ x. (y * w + x) ∷ ((y * w + x + 1) ∷ [])) (below (w - 1))
 unfolding links
 row_is w y =
-    let f : ℕ → List ℕ = λ s. s ∷ ((s + 1) ∷ []) in
     let e : y * w + w - 1 - y * w ≡ w - 1 = omega arith in
-    let z : y * w ≡ y * w + 0 = omega arith in
-    ap (λ (j : ℕ). joined f (up_from j (y * w))) e ∙ ap (λ (j : ℕ). joined f (up_from (w - 1) j)) z ∙ shifted f (y * w) (w - 1) 0
+    let here = shifted (λ s. s ∷ ((s + 1) ∷ [])) (y * w) (w - 1) 0 in
+    rw (e, ← here) (cc (add-zero (y * w)))
 
 -- those along the rows, and those along the columns
 along_rows : (w h : ℕ) → row_links w h 0 ≡ joined (λ y. joined (λ x. (y * w + x) ∷ ((y * w + x + 1) ∷ [])) (below (w - 1))) (below h)
 unfolding row_links
 along_rows w h =
-    let z : h - 0 ≡ h = omega arith in
-    ap (λ (j : ℕ). joined (λ y. links (y * w) (y * w + w - 1) 1) (up_from j 0)) z
-    ∙ ap (λ (f : ℕ → List ℕ). joined f (below h)) (fun_ext (λ y. row_is w y))
+    let z : h - 0 ≡ h = omega arith in rw z (ap (λ (f : ℕ → List ℕ). joined f (below h)) (fun_ext (row_is w)))
 
 along_columns : (w h : ℕ) → links 0 (w * h - w) w ≡ joined (λ y. joined (λ x. (y * w + x) ∷ ((y * w + x + w) ∷ [])) (below w)) (below (h - 1))
 unfolding links
 along_columns w h =
     let e : w * h - w - 0 ≡ (h - 1) * w = grind (arith, mul-sub w h 1) in
     let z : 0 ≡ 0 * w = omega arith in
-    let f : ℕ → List ℕ = λ s. s ∷ ((s + w) ∷ []) in
-    ap (λ (j : ℕ). joined f (up_from j 0)) e ∙ ap (λ (j : ℕ). joined f (up_from ((h - 1) * w) j)) z ∙ by_rows f w (h - 1) 0
+    let all = by_rows (λ s. s ∷ ((s + w) ∷ [])) w (h - 1) 0 in
+    cc
 
 pub all_links : (w h : ℕ) → row_links w h 0 ++ links 0 (w * h - w) w ≡ grid_ends w h
-all_links w h =
-    ap (λ (xs : List ℕ). xs ++ links 0 (w * h - w) w) (along_rows w h)
-    ∙ ap (λ (xs : List ℕ). joined (λ y. joined (λ x. (y * w + x) ∷ ((y * w + x + 1) ∷ [])) (below (w - 1))) (below h) ++ xs) (along_columns w h)
+all_links w h = rw (along_rows, along_columns)
 
 pub ruleset grid_ends_are = (row_more, row_none, all_links)
