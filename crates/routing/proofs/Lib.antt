@@ -1,5 +1,4 @@
 pub mod Cells
-pub mod Sides
 pub mod GridEnds
 pub mod GridLinks
 pub mod Walking

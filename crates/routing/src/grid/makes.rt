@@ -23,7 +23,6 @@ fn push_links(ends: &mut Vec<u8>, first: u8, end: u8, step: u8) -> Result<(), Al
 
 impl Grid {
     // A grid of these sides, if it has 2 to 32 switches.
-    #[tactic(auto, using(crate::proofs::Sides::short_sides))]
     pub fn new(width: u32, height: u32) -> Result<Grid, RuleFault>
         ensures { MakesGrid width height result }
     {
