@@ -1,6 +1,5 @@
 pub mod Cells
-pub mod Sides
-pub mod Joining
+pub mod GridEnds
 pub mod GridLinks
 pub mod Walking
 pub mod Stepping

@@ -1,11 +1,11 @@
--- The links of a grid, row by row.
-use Rattle.std.specs.Prelude.{ℕ, ◌+◌, ◌*◌, List, [], ◌∷◌}
-use Rattle.model.specs.Lists.{below, joined}
+-- The links of a grid, by their ends.
+use Rattle.std.specs.Prelude.{ℕ, ◌+◌, ◌-◌, ◌*◌, List, [], ◌∷◌}
+use Rattle.model.specs.Lists.{up_from, joined}
 
--- The ends of k links: each joins a switch, counted from a, to the one `step` further on.
-abbrev pub row : ℕ → ℕ → ℕ → List ℕ
-row a k step = joined (λ x. (a + x) ∷ ((a + x + step) ∷ [])) (below k)
+-- Each joins a switch from `first` on, up to `end`, to the one `step` further on.
+unfoldable pub links : ℕ → ℕ → ℕ → List ℕ
+links first end step = joined (λ s. s ∷ ((s + step) ∷ [])) (up_from (end - first) first)
 
--- Those of the first h rows of w switches.
-abbrev pub rows : ℕ → ℕ → ℕ → ℕ → List ℕ
-rows w h k step = joined (λ y. row (y * w) k step) (below h)
+-- Those along the rows of a grid, from row y on.
+unfoldable pub row_links : ℕ → ℕ → ℕ → List ℕ
+row_links w h y = joined (λ y. links (y * w) (y * w + w - 1) 1) (up_from (h - y) y)

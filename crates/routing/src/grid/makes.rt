@@ -1,7 +1,6 @@
-ghost use Rattle.std.specs.Prelude.{◌≡◌, ◌+◌, ◌*◌, ◌≤◌, ◌++◌, IfOk, OnOk};
+ghost use Rattle.std.specs.Prelude.{◌≡◌, ◌+◌, ◌≤◌, ◌++◌, IfOk, OnOk};
 ghost use Rattle.model.specs.Rules.{grid_ends};
-ghost use Rattle.fabric.specs.Grids.{IsGrid};
-ghost use Rattle.routing.specs.Links.{row, rows};
+ghost use Rattle.routing.specs.Links.{links};
 ghost use Rattle.routing.specs.Grids.{MakesGrid, MakesGridFabric};
 
 use crate::fault::RuleFault;
@@ -9,79 +8,51 @@ use crate::grid::Grid;
 use fabric::{Fabric, grid_size};
 use std::alloc::{AllocError, Global};
 
-// Adds the ends of `count` links: each joins a switch, counted from `first`, to the one `step` further on.
-fn push_row(ends: &mut Vec<u8>, first: u8, count: u8, step: u8) -> Result<(), AllocError>
-    requires { first + count + step ≤ 255 }
-    ensures { OnOk result (ends.new.items ≡ ends.old.items ++ row first count step) }
+// Adds the ends of links: each joins a switch from `first` on, up to `end`, to the one `step` further on.
+#[tactic(auto, using(crate::proofs::GridEnds::links_are, std::proofs::lemmas::Grind::common_steps))]
+fn push_links(ends: &mut Vec<u8>, first: u8, end: u8, step: u8) -> Result<(), AllocError>
+    requires { end + step ≤ 256 }
+    ensures { OnOk result (ends.new.items ≡ ends.old.items ++ links first end step) }
 {
-    for i in 0..count {
-        ends.push(first + i)?;
-        ends.push(first + i + step)?;
-    }
-    Ok(())
-}
-
-// Does so for the first rows of a grid, one after the other.
-fn push_rows(ends: &mut Vec<u8>, width: u8, high: u8, count: u8, step: u8) -> Result<(), AllocError>
-    requires { (count ≤ width) × (high * width + step ≤ 255) }
-    ensures { OnOk result (ends.new.items ≡ ends.old.items ++ rows width high count step) }
-{
-    for y in 0..high {
-        push_row(ends, y * width, count, step)?;
+    for switch in first..end {
+        ends.push(switch)?;
+        ends.push(switch + step)?;
     }
     Ok(())
 }
 
 impl Grid {
-    // A grid of these sides.
-    fn of(width: u32, height: u32) -> Grid
-        requires { IsGrid width height }
-        ensures { (result.width ≡ width) × (result.height ≡ height) }
-    {
-        Grid {
-            width: width as u8,
-            height: height as u8,
-        }
-    }
-
     // A grid of these sides, if it has 2 to 32 switches.
     pub fn new(width: u32, height: u32) -> Result<Grid, RuleFault>
         ensures { MakesGrid width height result }
     {
         grid_size(width, height)?;
-        Ok(Grid::of(width, height))
+        Ok(Grid {
+            width: width as u8,
+            height: height as u8,
+        })
     }
 
-    // Its links: those along the rows, then those along the columns.
+    // The ends of its links: those along the rows, then those along the columns.
+    #[tactic(auto, using(crate::proofs::GridEnds::grid_ends_are, std::proofs::lemmas::Grind::common_steps))]
     fn ends(&self, heap: Global) -> Result<Vec<u8>, AllocError>
         ensures { IfOk result (λ v. v.items ≡ grid_ends self.now.width self.now.height) }
     {
         let mut ends = Vec::new(heap);
-        push_rows(&mut ends, self.width, self.height, self.width - 1, 1)?;
-        push_rows(
-            &mut ends,
-            self.width,
-            self.height - 1,
-            self.width,
-            self.width,
-        )?;
+        for y in 0..self.height {
+            let first = y * self.width;
+            push_links(&mut ends, first, first + self.width - 1, 1)?;
+        }
+        push_links(&mut ends, 0, self.switch_count() - self.width, self.width)?;
         Ok(ends)
     }
 
     // The fabric of its links, which nothing refuses.
-    fn cabled(&self, heap: Global, ends: &[u8]) -> Result<Fabric, RuleFault>
-        requires { ends.now ≡ grid_ends self.now.width self.now.height }
-        ensures { MakesGridFabric self.now result }
-    {
-        let fabric = Fabric::new(heap, self.switch_count() as u32, ends)?;
-        Ok(fabric)
-    }
-
-    // Its fabric.
+    #[tactic(auto, using(crate::proofs::GridLinks::grid_fault))]
     pub fn fabric(&self, heap: Global) -> Result<Fabric, RuleFault>
         ensures { MakesGridFabric self.now result }
     {
         let ends = self.ends(heap)?;
-        self.cabled(heap, &ends)
+        Ok(Fabric::new(heap, self.switch_count() as u32, &ends)?)
     }
 }
