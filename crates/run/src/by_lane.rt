@@ -1,6 +1,6 @@
 ghost use Rattle.std.specs.Prelude.{◌≡◌, ℕ, ◌<◌, ◌==◌, if◌then◌else◌, slice_index_or};
 
-// What stands in each of the eight lanes of a channel or a switch.
+// What stands in each of the eight lanes of a channel or a switch. A type, since a proof knows no length of an array inside an array.
 #[derive(Clone, Copy)]
 pub struct ByLane<T> {
     pub items: [T; 8],
