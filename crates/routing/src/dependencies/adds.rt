@@ -29,6 +29,7 @@ impl Graph for Dependencies {
 
 impl Dependencies {
     // Those of a lane without pairs, for the channels of a fabric.
+    #[tactic(auto, using(crate::proofs::Adding::edge_none))]
     pub fn none(fabric: &Fabric) -> Dependencies
         ensures size { result.channels ≡ count (net fabric.now) }
         ensures none { (b c : ℕ) → leads result b c ≡ false }

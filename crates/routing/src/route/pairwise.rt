@@ -27,6 +27,7 @@ impl<R: RouteRule> Iterator for Steps<'_, '_, R> {
 
     ghost remaining = { item_count (steps_left R.maps) };
 
+    #[tactic(auto, using(crate::proofs::Stepping::is_step))]
     fn next(&mut self) -> Option<Step> {
         let tail = self.last?;
         let Some(hop) = self.rest.next() else {
