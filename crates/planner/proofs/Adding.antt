@@ -29,14 +29,17 @@ pub admits_new : (was is : Dependencies) (x : Step) (o : Option ℕ) → x.tail 
 admits_new was is x (Some k) ht hh ne A f s size adds = cc
 admits_new was is x None ht hh ne A f s size adds =
     let n = was.channels in
-    let z : Adds (only x.tail x.head) was is = λ b c. adds b c ∙ ap (λ (t : Bool). leads was b c || t) (taking_is n x b c ht hh ne) in (
-      z,
-      (
-        size,
-        acyclic_less (leads is) (with was (only x.tail x.head)) n (λ b c hb hc h. sym (z b c) ∙ h)
-            (acyclic_plus (leads was) n x.tail x.head A (λ r. f hh ht r.0 r.1)),
-      ),
-    )
+    let z : Adds (only x.tail x.head) was is = λ b c. adds b c ∙ ap (λ (t : Bool). leads was b c || t) (taking_is n x b c ht hh ne) in
+    record {
+      adds = z;
+      sound =
+          record {
+            size = size;
+            free =
+                acyclic_less (leads is) (with was (only x.tail x.head)) n (λ b c hb hc h. sym (z b c) ∙ h)
+                (acyclic_plus (leads was) n x.tail x.head A (λ r. f hh ht r.0 r.1));
+          };
+    }
 
 pub admits_not : (was is : Dependencies) (c e : ℕ) (o : Option ℕ) → Fewest (leads was) was.channels e c o → is_some o ≡ true → Admits c e was is false
 admits_not was is c e (Some k) f s = (k, f.3)
@@ -53,8 +56,8 @@ module _ (n : ℕ) (needed : ℕ → ℕ → Bool) (was : Dependencies) where
   noted_more is more x rest N A =
       record {
         each = λ b c.
-            ap (λ (z : Bool). z || has rest b c) (A.0 b c) ∙ or_assoc (leads is b c) (only x.tail x.head b c) (has rest b c) ∙ N.each b c;
-        sound = (A.1.0 ∙ N.sound.0, subst (Acyclic (leads more)) N.sound.0 A.1.1);
+            ap (λ (z : Bool). z || has rest b c) (A.adds b c) ∙ or_assoc (leads is b c) (only x.tail x.head b c) (has rest b c) ∙ N.each b c;
+        sound = record { size = A.sound.size ∙ N.sound.size; free = subst (Acyclic (leads more)) N.sound.size A.sound.free };
       }
 
   -- One that closes a cycle.
@@ -65,8 +68,8 @@ module _ (n : ℕ) (needed : ℕ → ℕ → Bool) (was : Dependencies) where
       let here : has (edge_of x ∷ rest) x.tail x.head ≡ true = simp (eq-eqb x.tail x.tail refl, eq-eqb x.head x.head refl) in
       let there : W x.tail x.head ≡ true = sym (N.each x.tail x.head) ∙ or_right (leads is x.tail x.head) (has (edge_of x ∷ rest) x.tail x.head) here in
       let back = walk_more (leads is) W n (λ b c hb hc h. sym (N.each b c) ∙ or_left (leads is b c) (has (edge_of x ∷ rest) b c) h) x.head in
-      let way = subst (λ (m : ℕ). Reach (leads is) m x.head x.tail) N.sound.0 r in
-      closes W n x.tail x.head ht hh (way.0, back way.0 x.tail ht way.1) there
+      let way = subst (λ (m : ℕ). Reach (leads is) m x.head x.tail) N.sound.size r in
+      record { closes = closes W n x.tail x.head ht hh (way.0, back way.0 x.tail ht way.1) there }
 
   pub noted_all : (is : Dependencies) → Noted is [] → Tried n needed was is true
-  noted_all is N = (λ b c. or_none (leads is b c) ∙ N.each b c, N.sound)
+  noted_all is N = record { adds = λ b c. or_none (leads is b c) ∙ N.each b c; sound = N.sound }

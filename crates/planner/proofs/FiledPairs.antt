@@ -58,7 +58,7 @@ pub record Keeps (n : ℕ) (x : Dependencies) (es : List Edge) : Type 0 where
 
 keeps_none : (n : ℕ) (x : Dependencies) → x.channels ≡ n → ((b c : ℕ) → leads x b c ≡ false) → Keeps n x []
 keeps_none n x size none =
-    record { sound = (size, λ a k ha w. false≢true (sym (none w.0 a) ∙ w.3)); same = none; inside = λ b c w. absurd (false≢true w) }
+    record { sound = record { size = size; free = λ a k ha w. false≢true (sym (none w.0 a) ∙ w.3) }; same = none; inside = λ b c w. absurd (false≢true w) }
 
 module _ (n : ℕ) (new : List Edge) (inside : Inside n new) (x : Dependencies) (es : List Edge) (K : Keeps n x es) where
   both : (b c : ℕ) → has (new ++ es) b c ≡ with x (has new) b c
@@ -69,13 +69,13 @@ module _ (n : ℕ) (new : List Edge) (inside : Inside n new) (x : Dependencies) 
 
   refuses : Refuses n (has new) x → completes n (new ++ es) ≡ false
   refuses C =
-      completes_no n (new ++ es) (λ A. C (acyclic_less (with x (has new)) (has (new ++ es)) n (λ b c _ _ w. both b c ∙ w) A))
+      completes_no n (new ++ es) (λ A. C.closes (acyclic_less (with x (has new)) (has (new ++ es)) n (λ b c _ _ w. both b c ∙ w) A))
 
   module _ (y : Dependencies) (adds : Adds (has new) x y) (s : Sound n y) where
     accepts : completes n (new ++ es) ≡ true
     accepts =
         completes_yes n (new ++ es) both_inside
-        (acyclic_less (has (new ++ es)) (leads y) n (λ b c _ _ w. adds b c ∙ sym (both b c) ∙ w) s.1)
+        (acyclic_less (has (new ++ es)) (leads y) n (λ b c _ _ w. adds b c ∙ sym (both b c) ∙ w) s.free)
 
     keeps_more : Keeps n y (new ++ es)
     keeps_more = record { sound = s; same = λ b c. adds b c ∙ sym (both b c); inside = both_inside }

@@ -13,33 +13,38 @@ module _ (n : ℕ) (e : ℕ → ℕ → Bool) (was : List Dependencies) where
     pub lower : AllWithin (Refuses n e) was 0 l
 
   -- What the lane that is tried must be.
-  pub sound_at : All (Sound n) was → (is : List Dependencies) (l : ℕ) (r : Dependencies) → Refusing is l → l < length is → Sound n (get_or is l r)
-  sound_at H is l r R h = subst (λ bs. Sound n (get_or bs l r)) (sym R.same) (H l r (omega (arith, ap length R.same)))
+  pub sound_at : (is : List Dependencies) (l : ℕ) (r : Dependencies) → Refusing is l → All (Sound n) was → l < length is → Sound n (get_or is l r)
+  sound_at is l r R H h = subst (λ bs. Sound n (get_or bs l r)) (sym R.same) (H l r (omega (arith, ap length R.same)))
 
-  pub refusing_more : (is : List Dependencies) (l : ℕ) (y r : Dependencies) → Refusing is l → l < length is → Filed n e (get_or is l r) y false
+  -- Another lane refuses them.
+  pub refusing_more : (is : List Dependencies) (l : ℕ) (y r : Dependencies) (b : Bool) → Refusing is l → Filed n e (get_or is l r) y b → b ≡ false → l < length is
       → Refusing (set is l y) (l + 1)
-  refusing_more is l y r R h f =
+  refusing_more is l y r b R F q h =
+      let f = F.spares q in
       record {
-        same = ap (set is l) f.0 ∙ set-get_or is l r ∙ R.same;
+        same = ap (set is l) f.same ∙ set-get_or is l r ∙ R.same;
         lower = λ k d _ hk.
             elim (cases_eq k l) [
-              | inl q ↦
-                  let there : get_or is l r ≡ get_or was k d = ap (λ bs. get_or bs l r) R.same ∙ ap (λ i. get_or was i r) (sym q) ∙ get_or_default was k r d (omega (arith, ap length R.same)) in
-                  subst (Refuses n e) there f.1
-              | inr q ↦ R.lower k d (omega arith) (omega arith)
+              | inl z ↦
+                  let there : get_or is l r ≡ get_or was k d =
+                  ap (λ bs. get_or bs l r) R.same ∙ ap (λ i. get_or was i r) (sym z) ∙ get_or_default was k r d (omega (arith, ap length R.same)) in
+                  subst (Refuses n e) there f.refuses
+              | inr z ↦ R.lower k d (omega arith) (omega arith)
             ];
       }
 
-  pub placing : (is : List Dependencies) (l : ℕ) (y r : Dependencies) → Refusing is l → l < length is → Filed n e (get_or is l r) y true
+  -- A lane takes them.
+  pub placing : (is : List Dependencies) (l : ℕ) (y r : Dependencies) (b : Bool) → Refusing is l → Filed n e (get_or is l r) y b → b ≡ true → l < length is
       → PlacedIn n e was (set is l y) l
-  placing is l y r R h f =
+  placing is l y r b R F q h =
+      let f = F.takes q in
       record {
         below = omega (arith, ap length R.same);
         lower = R.lower;
         lane = y;
         set = ap (λ bs. set bs l y) R.same;
-        adds = λ d. rw (get_or_default was l d r (omega (arith, ap length R.same)), ← R.same) f.0;
-        sound = f.1;
+        adds = λ d. rw (get_or_default was l d r (omega (arith, ap length R.same)), ← R.same) f.adds;
+        sound = f.sound;
       }
 
   pub refusing_all : (is : List Dependencies) (l : ℕ) → Refusing is l → length is ≤ l → All (Refuses n e) was

@@ -14,7 +14,6 @@ use fabric::{LaneCount, Pair};
 use routing::Dependencies;
 
 // Files a pair in the lowest lane where no cycle closes, and returns which that is.
-#[tactic(auto, using(crate::proofs::Placing::sound_at, crate::proofs::Placing::refusing_more, crate::proofs::Placing::placing, crate::proofs::Placing::refusing_all))]
 fn place(draft: &Draft, board: &mut [Dependencies], pair: Pair) -> Option<usize>
     requires { All (Sound (count (net draft.now.fabric.now))) board.old }
     ensures { Placed (count (net draft.now.fabric.now)) (needs draft.now pair) board.old board.new result }

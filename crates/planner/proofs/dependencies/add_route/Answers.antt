@@ -20,10 +20,10 @@ admit-requires c =
     let e = c.in-Some.ensures.steps in
     let q = ap (λ (f : Fabric). count (net f)) i.on in
     record {
-      from = omega (arith, e.2.from, i.noted.sound.0, q);
-      to = omega (arith, e.2.to, i.noted.sound.0, q);
+      from = omega (arith, e.2.from, i.noted.sound.size, q);
+      to = omega (arith, e.2.to, i.noted.sound.size, q);
       apart = e.2.apart;
-      free = subst (Acyclic (leads c.loop-step.lane)) (sym i.noted.sound.0) i.noted.sound.1;
+      free = subst (Acyclic (leads c.loop-step.lane)) (sym i.noted.sound.size) i.noted.sound.free;
     }
 
 pub returns-then-not-admit : goal.returns-then-not-admit

@@ -6,7 +6,7 @@ use Rattle.planner.proofs.draft.Draft.of.Goals as goal
 pub loop-place-preserved : goal.loop-place-preserved
 loop-place-preserved g c =
     let s = c.switch_count-switches.ensures in
-    filled_more (net c.args.fabric.now).switches c.switch_count-switches.result c.loop-place.place c.byte_at.result _ c.loop-place.cells.items _
+    filled_more (net c.args.fabric.now).switches c.switch_count-switches.result c.loop-place.place c.byte_at.result _ c.loop-place.cells.items c.push.new.self.items
     c.loop-place.invariant c.push.ensures.items c.byte_at.ensures s.is (omega arith) (omega arith)
 
 pub returns-clause-table : goal.returns-clause-table
