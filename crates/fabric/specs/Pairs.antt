@@ -11,9 +11,9 @@ abbrev pub plain_pair : CodePair → Pair
 plain_pair p = record { source = p.source; destination = p.destination }
 
 -- A pair of n switches is these two; without one they are no pair.
-abbrev pub Finds : ℕ → ℕ → ℕ → Option CodePair → Type 0
-Finds n s d None = is_pair n s d ≡ false
-Finds n s d (Some p) = (is_pair n s d ≡ true) × (p.source ≡ s) × (p.destination ≡ d)
+abbrev pub FindsPair : ℕ → ℕ → ℕ → Option CodePair → Type 0
+FindsPair n s d None = is_pair n s d ≡ false
+FindsPair n s d (Some p) = (is_pair n s d ≡ true) × (p.source ≡ s) × (p.destination ≡ d)
 
 -- The pairs still to come.
 abbrev pub left : Pairs → List Pair

@@ -1,4 +1,4 @@
-ghost use Rattle.fabric.specs.Pairs.{Finds};
+ghost use Rattle.fabric.specs.Pairs.{FindsPair};
 
 // Two different switches: where a packet comes from, and where it goes.
 #[derive(Clone, Copy, PartialEq, Eq, Debug)]
@@ -10,7 +10,7 @@ pub struct Pair {
 impl Pair {
     // These two of so many switches as a pair; none where one is missing or both are the same.
     pub fn of(switches: u8, source: u32, destination: u32) -> Option<Pair>
-        ensures { Finds switches source destination result }
+        ensures { FindsPair switches source destination result }
     {
         let switches = u32::from(switches);
         if source >= switches || destination >= switches || source == destination {

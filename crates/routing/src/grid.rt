@@ -2,7 +2,7 @@ ghost use Rattle.std.specs.Prelude.{◌≡◌, true, ◌+◌, ◌-◌, ◌*◌, 
 ghost use Rattle.model.specs.Net.{is_pair};
 ghost use Rattle.model.specs.Rules.{grid_hop, grid_rule};
 ghost use Rattle.fabric.specs.Grids.{IsGrid};
-ghost use Rattle.fabric.specs.Pairs.{Finds};
+ghost use Rattle.fabric.specs.Pairs.{FindsPair};
 
 use crate::rule::RouteRule;
 use fabric::Pair;
@@ -26,7 +26,7 @@ impl Grid {
 
     // These two switches as a pair.
     fn pair(&self, source: u8, destination: u8) -> Option<Pair>
-        ensures { Finds (self.now.width * self.now.height) source destination result }
+        ensures { FindsPair (self.now.width * self.now.height) source destination result }
     {
         Pair::of(
             self.switch_count(),

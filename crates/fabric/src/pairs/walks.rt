@@ -2,7 +2,7 @@ ghost use Rattle.std.specs.Prelude.{◌≡◌};
 ghost use Rattle.std.specs.Iterator.{item_count};
 ghost use Rattle.model.specs.Routes.{pairs_of};
 ghost use Rattle.fabric.specs.Of.{net};
-ghost use Rattle.fabric.specs.Pairs.{Finds, NextPair, left};
+ghost use Rattle.fabric.specs.Pairs.{FindsPair, NextPair, left};
 
 use crate::network::Fabric;
 use crate::pair::Pair;
@@ -11,7 +11,7 @@ use crate::pairs::Pairs;
 impl Fabric {
     // These two switches as a pair; none where one is missing or both are the same.
     pub fn pair(&self, source: u32, destination: u32) -> Option<Pair>
-        ensures { Finds (net self.now).switches source destination result }
+        ensures { FindsPair (net self.now).switches source destination result }
     {
         Pair::of(self.switch_count() as u8, source, destination)
     }
