@@ -1,45 +1,32 @@
--- Rows of holds, followed over one dependency more.
-use Rattle.std.proofs.Common.{◌≡◌, ℕ, zero, suc, ◌+◌, ◌<◌, ◌≤◌, Bool, true, List, length, get_or, set, replicate, sym, refl, ap, ◌∙◌, inl, inr, add-one, arith, get_or-set_other, get_or-set_same}
+-- Rows of slots, whose holds are followed over one dependency more.
+use Rattle.std.proofs.Common.{◌≡◌, ℕ, zero, suc, ◌+◌, ◌<◌, ◌≤◌, Bool, true, List, sym, refl, ap, ◌∙◌, add-one, arith}
 use mathlib.Core.Path.{fun_ext}
-use Rattle.std.proofs.lemmas.List.{get_or-replicate}
-use Rattle.std.proofs.lemmas.Bool.{cases_eq}
 use Rattle.model.specs.Routes.{Edge, has}
 use Rattle.model.specs.Waits.{turn_cost, hold_from}
-use Rattle.patience.specs.Caps.{capped, heaviest, Row, costs, hold_on}
-use Rattle.patience.proofs.Capping.{capped_turn, heaviest_more, largest_heaviest}
+use Rattle.patience.specs.declared.holds.Slot.{Slot}
+use Rattle.patience.specs.Caps.{capped, heaviest, slot_at, costs, Row, hold_on, followed}
+use Rattle.patience.proofs.Capping.{capped_turn, heaviest_same, heaviest_more, largest_heaviest}
 
--- a row with one place more
-pub row_more : (f : ℕ → ℕ) (m x : ℕ) (xs : List ℕ) → m < length xs → x ≡ f m → Row f m xs → Row f (m + 1) (set xs m x)
-row_more f m x xs l e r c h = elim (cases_eq c m) [
-  | inl q ↦ ap (λ (k : ℕ). get_or (set xs m x) k 0) q ∙ get_or-set_same xs m x 0 l ∙ e ∙ ap f (sym q)
-  | inr n ↦ get_or-set_other xs m c x 0 n ∙ r c (omega (arith, n))
-]
-
--- the holds before any dependency is followed
-pub holds_none : (ks : List ℕ) (e : ℕ → ℕ → Bool) (n : ℕ) → n ≤ 128 → Row (λ c. capped (hold_on ks e n 0 c)) n (replicate 128 1)
-holds_none ks e n h c l = get_or-replicate 128 c 1 0 (omega arith)
-
--- and over one more
-pub holds_more : (ks hs hs' : List ℕ) (e : ℕ → ℕ → Bool) (n m : ℕ) → Row (λ c. capped (hold_on ks e n m c)) n hs
-    → Row (λ c. heaviest (costs ks hs) (e c) n) n hs' → Row (λ c. capped (hold_on ks e n (m + 1) c)) n hs'
-holds_more ks hs hs' e n m r r' c l =
-    r' c l
-    ∙ heaviest_more (costs ks hs) (λ x. turn_cost (get_or ks x 0) (hold_on ks e n m x)) (e c) n
-    (λ x h. ap (λ (y : ℕ). capped (turn_cost (get_or ks x 0) y)) (r x h) ∙ capped_turn (get_or ks x 0) (hold_on ks e n m x))
-    ∙ ap (λ (k : ℕ). capped (hold_on ks e n k c)) (sym (add-one m))
+-- one dependency more
+pub followed_more : (k : ℕ → ℕ) (e : ℕ → ℕ → Bool) (n m : ℕ) (xs ys : List Slot) → n ≤ 128 → Row (followed k e n m) xs
+    → Row (λ c. record { positions = (slot_at xs c).positions; hold = heaviest (costs xs) (e c) n }) ys → Row (followed k e n (m + 1)) ys
+followed_more k e n m xs ys few r more c l =
+    more c l
+    ∙ ap (λ (p : Slot). record { positions = p.positions; hold = heaviest (costs xs) (e c) n }) (r c l)
+    ∙ ap (λ (h : ℕ). record { positions = k c; hold = h })
+    (heaviest_more (costs xs) (λ x. turn_cost (k x) (hold_on k e n m x)) (e c) n
+    (λ x h. ap (λ (p : Slot). capped (turn_cost p.positions p.hold)) (r x (omega arith)) ∙ capped_turn (k x) (hold_on k e n m x))
+    ∙ ap (λ (j : ℕ). capped (hold_on k e n j c)) (sym (add-one m)))
 
 -- the holds of a list of dependencies between channels below n
-pub hold_is : (k : ℕ → ℕ) (ks : List ℕ) (n : ℕ) (es : List Edge) → Row k n ks → ((b c : ℕ) → has es b c ≡ true → (b < n) × (c < n))
-    → (m c : ℕ) → hold_on ks (has es) n m c ≡ hold_from k es m c
-hold_is k ks n es r inside zero c = refl
-hold_is k ks n es r inside (suc m) c =
-    same (λ x. turn_cost (get_or ks x 0) (hold_on ks (has es) n m x)) (λ x. turn_cost (k x) (hold_from k es m x)) n
-    (λ x l. ap (λ (y : ℕ). turn_cost y (hold_on ks (has es) n m x)) (r x l) ∙ ap (turn_cost (k x)) (hold_is k ks n es r inside m x))
+pub hold_is : (k : ℕ → ℕ) (n : ℕ) (es : List Edge) → ((b c : ℕ) → has es b c ≡ true → (b < n) × (c < n))
+    → (m c : ℕ) → hold_on k (has es) n m c ≡ hold_from k es m c
+hold_is k n es inside zero c = refl
+hold_is k n es inside (suc m) c =
+    heaviest_same (λ x. turn_cost (k x) (hold_on k (has es) n m x)) (λ x. turn_cost (k x) (hold_from k es m x)) (has es c) n
+    (λ x l. ap (turn_cost (k x)) (hold_is k n es inside m x))
     ∙ sym (largest_heaviest (λ x. turn_cost (k x) (hold_from k es m x)) c n es (λ x h. (inside c x h).1))
-  where
-    same : (f g : ℕ → ℕ) (m : ℕ) → ((x : ℕ) → x < m → f x ≡ g x) → heaviest f (has es c) m ≡ heaviest g (has es c) m
-    same f g m h = Rattle.patience.proofs.Capping.heaviest_same f g (has es c) m h
 
 -- the same graph by another name
-pub hold_by : (ks : List ℕ) (e e' : ℕ → ℕ → Bool) (n m c : ℕ) → ((b x : ℕ) → e b x ≡ e' b x) → hold_on ks e n m c ≡ hold_on ks e' n m c
-hold_by ks e e' n m c q = ap (λ (z : ℕ → ℕ → Bool). hold_on ks z n m c) (fun_ext (λ b. fun_ext (q b)))
+pub hold_by : (k : ℕ → ℕ) (e e' : ℕ → ℕ → Bool) (n m c : ℕ) → ((b x : ℕ) → e b x ≡ e' b x) → hold_on k e n m c ≡ hold_on k e' n m c
+hold_by k e e' n m c q = ap (λ (z : ℕ → ℕ → Bool). hold_on k z n m c) (fun_ext (λ b. fun_ext (q b)))

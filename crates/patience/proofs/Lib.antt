@@ -1,4 +1,4 @@
 pub mod Capping
+pub mod Folding
 pub mod HoldRows
-pub mod Costs
 pub mod Telling

@@ -1,5 +1,6 @@
 -- What the patience call answers.
-use Rattle.std.specs.Prelude.{◌≡◌, ℕ, true, false, List, Ok, Err, Result}
+use Rattle.std.specs.Prelude.{◌≡◌, ℕ, List, Result}
+use Rattle.std.specs.Bool.{MatchBool}
 use Rattle.model.specs.Net.{is_pair}
 use Rattle.model.specs.Rules.{Setup}
 use Rattle.model.specs.Run.{missing_number}
@@ -12,7 +13,4 @@ use Rattle.patience.specs.Caps.{capped}
 -- the pair's patience, or 4,294,967,295 where it is more.
 abbrev pub Patient : Setup → ℕ → ℕ → List ℕ → List ℕ → List ℕ → List ℕ → Result ℕ RuleFault → Type 0
 Patient g s d o o' c c' r =
-    elim (is_pair g.net.switches s d) [
-      | false ↦ Refuses (λ f. Err f) missing_number r × (o' ≡ o) × (c' ≡ c)
-      | true ↦ Checked (Ok (capped (patience g s d))) (λ f. Err f) g o o' c c' r
-    ]
+    MatchBool (is_pair g.net.switches s d) (Checked (capped (patience g s d)) g o o' c c' r) (Refuses missing_number r × (o' ≡ o) × (c' ≡ c))

@@ -1,16 +1,17 @@
-use Rattle.std.proofs.Common.{ℕ, max, Bool, sym, ap, ◌∙◌}
+use Rattle.std.proofs.Common.{ℕ, max, Bool, rules, tests, arith, ap, ◌∙◌}
+use Rattle.std.proofs.lemmas.Iterator.{YieldsList-from_range, YieldsList-from_map}
+use Rattle.std.proofs.lemmas.Iterator.Consumers.{YieldsList-from_filter, YieldsList-at}
 use Rattle.patience.specs.Caps.{costs, heaviest}
-use Rattle.patience.proofs.Capping.{heaviest_hit, heaviest_miss}
+use Rattle.patience.proofs.Folding.{folded, heaviest_chain}
 use Rattle.patience.proofs.holds.next_hold.Goals as goal
-use Rattle.patience.proofs.holds.next_hold.Goals.{then-leads, else-leads}
 
-pub loop-to-preserved : goal.loop-to-preserved
-loop-to-preserved g c =
-    let f : ℕ → ℕ = costs c.args.counts.now c.args.holds.now in
+pub returns : goal.returns
+returns g c =
+    let f : ℕ → ℕ = costs c.args.slots.now in
     let e : ℕ → Bool = g.G.Graph.edge c.args.lane.now c.args.channel in
-    let m : ℕ = c.loop-to.to in
-    elim c.if-leads.branch [
-      | then-leads w ↦ heaviest_hit f e m c.if-leads.most (sym c.leads.ensures ∙ w.if-leads.true)
-          (w.most-is ∙ w.max-most.ensures ∙ ap (λ (x : ℕ). max x w.turn_cost.result) c.loop-to.invariant ∙ ap (max (heaviest f e m)) w.turn_cost.ensures)
-      | else-leads w ↦ heaviest_miss f e m c.if-leads.most (sym c.leads.ensures ∙ w.if-leads.false) (w.most-is ∙ c.loop-to.invariant)
-    ]
+    let n : ℕ = c.node_count.result in
+    folded max c.fold.ensures.ran
+    (YieldsList-from_map _ f (YieldsList-at c.map.ensures.source
+    (YieldsList-from_filter _ e (YieldsList-from_range 0 n n (cc) (omega arith)) c.filter.ensures.closure (λ x r q k. search (rules, tests))))
+    c.map.ensures.closure (λ x r q k. search (rules, tests))) (λ x y b q k. search rules)
+    ∙ heaviest_chain f e n ∙ ap (heaviest f e) c.node_count.ensures
