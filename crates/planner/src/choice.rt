@@ -35,9 +35,11 @@ impl<'a> HopRows<'a> {
         let Some(joined) = self.fabric.channel(channel) else {
             return false;
         };
-        let near = self.hops(joined.finish, pair.destination);
-        let far = self.hops(pair.source, pair.destination);
-        joined.start == pair.source && one_more(near, far)
+        joined.start == pair.source
+            && one_more(
+                self.hops(joined.finish, pair.destination),
+                self.hops(pair.source, pair.destination),
+            )
     }
 
     // The channels that leave a switch for one that is one hop nearer to the destination, ascending.

@@ -39,10 +39,8 @@ pub(crate) fn file_pairs(
     let mut table = ArrayVec::from([NONE; 1024]);
     table.truncate(switches * switches);
     for pair in draft.fabric.pairs() {
-        let lane = place(draft, board, pair).ok_or(TopologyFault::NoLane(
-            pair.source,
-            pair.destination,
-        ))?;
+        let no_lane = TopologyFault::NoLane(pair.source, pair.destination);
+        let lane = place(draft, board, pair).ok_or(no_lane)?;
         table[pair.source as usize * switches + pair.destination as usize] = lane as u8;
     }
     Ok(table)

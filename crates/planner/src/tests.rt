@@ -62,10 +62,8 @@ fn refused(
 {
     let mut channels = [1; 16];
     let mut table = [2; 16];
-    match plan(fabric, lanes, given, &mut channels[0..size], &mut table) {
-        Ok(_) => return Err(Fail::new("planned")),
-        Err(found) => assert_eq!(rt; found, fault),
-    }
+    let answer = plan(fabric, lanes, given, &mut channels[..size], &mut table);
+    assert_eq!(rt; answer, Err(fault));
     assert_eq!(rt; channels, [1; 16]);
     assert_eq!(rt; table, [2; 16]);
     Ok(())
