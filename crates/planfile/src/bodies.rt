@@ -1,8 +1,5 @@
 use crate::links::Links;
 
-// Stands in both tables on the diagonal, and in HOPS for no channel: the file's format has a byte for each two switches.
-pub const NONE: u8 = 255;
-
 // The lane count of a plan file and its two tables.
 #[derive(Clone, Copy)]
 pub struct Tables<'a> {

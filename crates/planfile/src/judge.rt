@@ -3,11 +3,12 @@ ghost use Rattle.planfile.specs.Contents.{Holds};
 ghost use Rattle.planfile.specs.Judges.{Judges, Searches, TablesIn, Tagged};
 ghost use Rattle.planfile.specs.Refused.{Cabled, Marred, Plain, switches_in};
 
-use crate::bodies::{Bodies, NONE, Tables};
+use crate::bodies::{Bodies, Tables};
 use crate::contents::{Contents, contents_of};
 use crate::fault::FileFault;
 use crate::links::read_links;
 use crate::part::Part;
+use routing::table::NONE;
 
 // The contents, and refusals 15 and 16.
 fn open(bytes: &[u8]) -> Result<Contents, FileFault>

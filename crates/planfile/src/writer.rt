@@ -3,12 +3,12 @@ ghost use Rattle.fabric.specs.Of.{net};
 ghost use Rattle.planfile.specs.File.{head_bytes};
 ghost use Rattle.planfile.specs.Writes.{Filled, Writes};
 
-use crate::bodies::NONE;
 use crate::entry::Entry;
 use crate::links::write_links;
 use crate::part::Part;
 use fabric::{CallFault, Fabric, LaneCount};
 use routing::RouteRule;
+use routing::table::NONE;
 
 // Byte 0 and the contents, for bodies of these lengths that follow one another.
 fn head(link: u16, hops: u16, lane: u16) -> [u8; 25]

@@ -4,10 +4,11 @@ ghost use Rattle.model.specs.Planner.{one_more, nearer, chosen, byte_of, hop_tab
 ghost use Rattle.fabric.specs.Of.{net};
 ghost use Rattle.planner.specs.Rows.{is_nearer};
 
-use crate::draft::{Draft, NONE};
+use crate::draft::Draft;
 use crate::rows::HopRows;
 use arrayvec::ArrayVec;
 use fabric::Pair;
+use routing::table::NONE;
 
 // Whether one hop count is one more than the other.
 fn one_more(near: Option<u32>, far: Option<u32>) -> bool

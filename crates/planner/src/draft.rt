@@ -9,10 +9,7 @@ ghost use Rattle.planner.specs.Rows.{TakesPairs, Gives};
 use arrayvec::ArrayVec;
 use fabric::{Fabric, Pair};
 use routing::RouteRule;
-use routing::table::cell;
-
-// Stands in a table for no channel, and for no lane: callers get tables of bytes.
-pub(crate) const NONE: u8 = 255;
+use routing::table::{NONE, cell};
 
 // A channel table in the making: for each switch of a fabric a row of bytes, one for each destination. It has no lanes yet.
 #[derive(Drop)]

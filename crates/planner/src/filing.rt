@@ -7,11 +7,12 @@ ghost use Rattle.planner.specs.Drafts.{needs};
 ghost use Rattle.planner.specs.Stages.{Answers};
 
 use crate::dependencies::file_in;
-use crate::draft::{Draft, NONE};
+use crate::draft::Draft;
 use crate::fault::TopologyFault;
 use arrayvec::ArrayVec;
 use fabric::{LaneCount, Pair};
 use routing::Dependencies;
+use routing::table::NONE;
 
 // Files a pair in the lowest lane where no cycle closes, and returns which that is.
 fn place(draft: &Draft, board: &mut [Dependencies], pair: Pair) -> Option<usize>

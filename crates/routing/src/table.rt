@@ -8,7 +8,7 @@ use fabric::Pair;
 mod makes;
 
 // Stands in a table for no channel, and for no lane: callers hand over tables of bytes, and so does the plan file.
-const NONE: u8 = 255;
+pub const NONE: u8 = 255;
 
 // A stored route rule: two lists of n × n bytes by row, channels by switch and destination, lanes by source and destination.
 #[derive(Drop)]
