@@ -26,6 +26,7 @@ fn relax<G: Graph>(graph: &G, row: &mut [Option<u8>; 128], node: u32, round: u8)
     ensures { Relaxed (G.edge graph.now node) (G.nodes graph.now) (G.nodes graph.now) round row.old row.new result }
 {
     let mut changed = false;
+    // By number: a graph is asked by numbers, and may have fewer nodes than the row has places.
     for to in 0..graph.node_count() {
         if row[to as usize].is_none() && graph.leads(node, to) {
             row[to as usize] = Some(round + 1);
@@ -41,6 +42,7 @@ fn advance<G: Graph>(graph: &G, row: &mut [Option<u8>; 128], round: u8) -> bool
     ensures { Grown (G.edge graph.now) (G.nodes graph.now) round (G.nodes graph.now) row.old row.new result }
 {
     let mut changed = false;
+    // By number: the row itself is handed on.
     for node in 0..graph.node_count() {
         if row[node as usize] == Some(round) {
             changed |= relax(graph, row, node, round);

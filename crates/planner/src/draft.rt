@@ -39,6 +39,7 @@ impl<'a> Draft<'a> {
     {
         let switches = fabric.switch_count();
         let mut cells = ArrayVec::new();
+        // By places: a table has a byte for equal switches too, which no pair is.
         for place in 0..switches * switches {
             cells.push(byte_at(fabric, &byte, place / switches, place % switches));
         }

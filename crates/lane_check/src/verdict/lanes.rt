@@ -42,6 +42,7 @@ impl<R: RouteRule> Setup<'_, '_, R> {
         ensures { order.new ≡ orders (model_of R.maps self.now) ++ drop (self.now.lanes.lanes * count (net self.now.fabric.now)) order.old }
     {
         let channels = self.fabric.channel_count() as usize;
+        // By lanes: after a loop over chunks of the list nothing is known of what was written through them.
         for lane in 0..self.lanes.get() {
             let list = sort(&dependencies(self.fabric, self.rule, lane)).unwrap();
             put(&list, order, lane as usize * channels);
