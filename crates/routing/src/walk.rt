@@ -1,6 +1,6 @@
-ghost use Rattle.std.specs.Prelude.{◌≡◌, ◌<◌, IfSome, Some};
+ghost use Rattle.std.specs.Prelude.{◌≡◌, ◌<◌, IfSome};
 ghost use Rattle.std.specs.Option.{option_map};
-ghost use Rattle.model.specs.Routes.{route_ends, fit, hop};
+ghost use Rattle.model.specs.Routes.{route_ends, hop};
 ghost use Rattle.fabric.specs.Of.{net};
 ghost use Rattle.routing.specs.Walks.{ending_of, channel_of, pair_ends, Leads};
 
@@ -24,22 +24,6 @@ pub enum Ending {
     Tires,
 }
 
-// The step over this channel, if it exists and leaves this switch.
-fn step(fabric: &Fabric, switch: u8, channel: u8) -> Option<Hop>
-    ensures is { option_map channel_of result ≡ fit (net fabric.now) switch (Some channel) }
-    ensures leads { IfSome result (Leads (net fabric.now) switch) }
-    ensures range { IfSome result (λ x. (x.channel < 128) × (x.to < 32)) }
-{
-    let joined = fabric.channel(channel as u32)?;
-    if joined.start != switch {
-        return None;
-    }
-    Some(Hop {
-        channel,
-        to: joined.finish,
-    })
-}
-
 // The step of a route at this switch: over the rule's channel, if it exists and leaves the switch; none at the destination.
 pub fn next_hop<R: RouteRule>(fabric: &Fabric, rule: &R, switch: u8, destination: u8) -> Option<Hop>
     ensures is { option_map channel_of result ≡ hop (net fabric.now) (R.maps rule.now) switch destination }
@@ -50,7 +34,11 @@ pub fn next_hop<R: RouteRule>(fabric: &Fabric, rule: &R, switch: u8, destination
         return None;
     }
     let channel = rule.channel(switch, destination)?;
-    step(fabric, switch, channel)
+    let joined = fabric.channel(channel as u32)?;
+    (joined.start == switch).then_some(Hop {
+        channel,
+        to: joined.finish,
+    })
 }
 
 // Takes the steps of a route one after the other, at most one fewer than there are switches.
