@@ -4,8 +4,11 @@ use Rattle.std.proofs.Math.Nat.{div-lt_iff_lt-mul, mod-lt}
 use Rattle.std.proofs.lemmas.Bool.{cond-true, cond-false, eq-eqb, ne_eqb, lt-ltb}
 use Rattle.model.specs.Net.{is_pair}
 use Rattle.model.specs.Routes.{Pair}
+use Rattle.model.specs.Routes.{pairs_of}
 use Rattle.model.specs.Pairs.{pairs_left}
-use Rattle.model.proofs.PairsLeft.{left_more}
+use Rattle.model.proofs.PairsLeft.{left_none, left_more, pairs_left_lem}
+use Rattle.fabric.specs.Of.{net}
+use Rattle.fabric.specs.declared.network.Fabric.{Fabric}
 
 -- the switches of a cell
 pub source_below : (n k : ℕ) → 1 ≤ n → k < n * n → k / n < n
@@ -28,3 +31,9 @@ pair_skip n k l e =
     left_more n k l
     ∙ (ap (λ (ps : List Pair). ps ++ pairs_left n (suc k)) (cond-true _ _ _ (eq-eqb (k / n) (k % n) e))
     ∙ ap (λ (j : ℕ). pairs_left n j) (sym (add-one k)))
+
+-- all pairs are left from the first cell on
+pub all_left : (f : Fabric) (n : ℕ) → n ≡ (net f).switches → pairs_left n 0 ≡ pairs_of (net f).switches
+all_left f n e = pairs_left_lem n ∙ ap (λ (m : ℕ). pairs_of m) e
+
+pub ruleset pairs_more = (cell_pair, pair_more, pair_skip, left_none)

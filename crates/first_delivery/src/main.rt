@@ -1,32 +1,29 @@
 #![tactic(auto)]
 
-ghost use Rattle.std.specs.Prelude.{◌+◌, ◌*◌, length, if◌then◌else◌, None, nat_lt, slice_index};
+ghost use Rattle.std.specs.Prelude.{◌+◌, ◌*◌, slice_index_or};
 ghost use Rattle.model.specs.Rules.{channel_byte};
 
-use anyhow::anyhow;
 use fabric::Fabric;
 use lane_check::check;
+use routing::RouteRule;
 use routing::table::Table;
-use routing::{RouteRule, RuleFault};
-use run::{Answer, Call, Outcome, Request, Run};
-use std::alloc::Global;
+use run::{Answer, Call, Request, Run};
 
-// A rule of this program's own, which borrows: channels by switch and destination, four to a row; every lane is 0.
+// Channels by switch and destination, four to a row; every lane is 0. The program's own rule, to show that any caller's rule serves.
 #[derive(Drop)]
 struct Rows<'a> {
     channels: &'a [u8],
 }
 
 impl RouteRule for Rows<'_> {
-    ghost maps = { λ s. record { next = λ u d. (if nat_lt (u * 4 + d) (length s.channels.now) then channel_byte (slice_index s.channels.now (u * 4 + d)) else None); lane = λ _ _. 0 } };
+    ghost maps = { λ s. record { next = λ u d. channel_byte (slice_index_or s.channels.now (u * 4 + d) 255); lane = λ _ _. 0 } };
 
     fn channel(&self, switch: u8, destination: u8) -> Option<u8> {
         let at = switch as usize * 4 + destination as usize;
-        if at >= self.channels.len() {
-            return None;
-        }
-        let channel = self.channels[at];
-        if channel < 255 { Some(channel) } else { None }
+        self.channels
+            .get(at)
+            .copied()
+            .filter(|channel| *channel < 255)
     }
 
     fn lane(&self, _source: u8, _destination: u8) -> u8 {
@@ -55,63 +52,13 @@ const REQUESTS: [Request; 9] = [
     Request::Make(Call::Serve(2, 0)),
 ];
 
-fn ring(heap: Global) -> anyhow::Result<Fabric> {
-    match Fabric::new(heap, 4, &ENDS) {
-        Ok(fabric) => Ok(fabric),
-        Err(_) => Err(anyhow!("no fabric")),
-    }
-}
-
-fn table(heap: Global, fabric: &Fabric) -> anyhow::Result<Table> {
-    match Table::new(heap, fabric, &CHANNELS, &LANES) {
-        Ok(table) => Ok(table),
-        Err(_) => Err(anyhow!("no table")),
-    }
-}
-
 // What the check says of the rule, with the order of the lane after a yes.
 fn report_check<R: RouteRule>(rt: &HostRuntime, fabric: &Fabric, rule: &R) -> anyhow::Result<()> {
     let mut order = [0u8; 8];
     let mut cycle = [0u8; 8];
     match check(fabric, 1, rule, &mut order, &mut cycle) {
         Ok(_) => println!(rt; "accepted, order {order:?}")?,
-        Err(fault) => report_refusal(rt, fault)?,
-    }
-    Ok(())
-}
-
-fn report_refusal(rt: &HostRuntime, fault: RuleFault) -> anyhow::Result<()> {
-    if let Some(number) = fault.number() {
-        println!(rt; "refused {number}")?;
-    }
-    Ok(())
-}
-
-fn report_outcome(rt: &HostRuntime, outcome: Outcome) -> anyhow::Result<()> {
-    match outcome {
-        Outcome::Delivered(packet) => {
-            let source = packet.source;
-            let destination = packet.destination;
-            let tag = packet.tag;
-            println!(rt; "delivered {source} {destination} {tag}")?
-        }
-        Outcome::Moved(position) => println!(rt; "moved {position}")?,
-        Outcome::Waits => rt.println("waits")?,
-        Outcome::Idle => rt.println("idle")?,
-    }
-    Ok(())
-}
-
-fn report(rt: &HostRuntime, answer: Answer) -> anyhow::Result<()> {
-    match answer {
-        Answer::Taken => rt.println("taken")?,
-        Answer::Served(outcome) => report_outcome(rt, outcome)?,
-        Answer::Holds(Some(packet)) => {
-            let tag = packet.tag;
-            println!(rt; "holds {tag}")?
-        }
-        Answer::Holds(None) => rt.println("empty")?,
-        Answer::Refused(fault) => report_refusal(rt, fault)?,
+        Err(fault) => println!(rt; "{}", Answer::Refused(fault))?,
     }
     Ok(())
 }
@@ -124,29 +71,22 @@ fn deliver_by<'a, R: RouteRule>(
 ) -> anyhow::Result<()> {
     report_check(rt, fabric, rule)?;
     let mut answers = [Answer::Taken; 9];
-    match Run::replay(fabric, 1, rule, &REQUESTS, &mut answers) {
-        Ok(_) => {}
-        Err(_) => return Err(anyhow!("the run is refused")),
-    }
+    Run::replay(fabric, 1, rule, &REQUESTS, &mut answers)?;
     for answer in answers {
-        report(rt, answer)?;
+        println!(rt; "{answer}")?;
     }
     Ok(())
 }
 
 // The same packet by a stored table and by a rule that borrows its channels.
-fn deliver(rt: &HostRuntime) -> anyhow::Result<()> {
-    let fabric = ring(rt.alloc())?;
-    let rule = table(rt.alloc(), &fabric)?;
+fn main(rt: HostRuntime) -> anyhow::Result<()> {
+    let fabric = Fabric::new(rt.alloc(), 4, &ENDS)?;
+    let table = Table::new(rt.alloc(), &fabric, &CHANNELS, &LANES)?;
     rt.println("by a stored table")?;
-    deliver_by(rt, &fabric, &rule)?;
+    deliver_by(&rt, &fabric, &table)?;
     rt.println("by borrowed rows")?;
     let rows = Rows {
         channels: &CHANNELS,
     };
-    deliver_by(rt, &fabric, &rows)
-}
-
-fn main(rt: HostRuntime) -> anyhow::Result<()> {
-    deliver(&rt)
+    deliver_by(&rt, &fabric, &rows)
 }

@@ -1,6 +1,6 @@
 -- The way back that closes a cycle.
-use Rattle.std.proofs.Common.{◌≡◌, ℕ, zero, suc, ◌+◌, ◌<◌, Bool, true, false, ◌&&◌, leb, List, [], ◌∷◌, ◌++◌, length, get_or, take, drop, set, Some, None, Option, sym, refl, ap, ◌∙◌, subst, inl, inr, arith}
-use Rattle.std.proofs.lemmas.List.{append_assoc, take-append-drop, set_at, take_more, drop_more, length-take-le}
+use Rattle.std.proofs.Common.{◌≡◌, ℕ, zero, suc, ◌+◌, ◌<◌, ◌≤◌, Bool, true, false, ◌&&◌, leb, List, [], ◌∷◌, ◌++◌, length, get_or, take, drop, set, Some, None, Option, sym, refl, ap, ◌∙◌, subst, inl, inr, add-one, arith}
+use Rattle.std.proofs.lemmas.List.{append_assoc, set_at, set_split, take_more, length-take-le}
 use Rattle.std.proofs.lemmas.Bool.{and_parts, and_from, both_ways, false≢true, le-leb}
 use Rattle.model.specs.Lists.{is_in, different}
 use Rattle.model.specs.Walks.{Walk, Fewest}
@@ -8,73 +8,73 @@ use Rattle.model.specs.Routes.{chained, is_cycle}
 use Rattle.model.proofs.Members.{option_cases, is_in_cases, different_more}
 use Rattle.graph.specs.Distances.{hops_to}
 use Rattle.graph.specs.declared.search.Distances.{Distances}
-use Rattle.lane_check.specs.Circles.{Before, Closes, Open, Looped}
+use Rattle.lane_check.specs.declared.lane.cycle.Round.{Round}
+use Rattle.lane_check.specs.Circles.{Before, Open, Rounds, Looped}
 
--- A way that is written from its end back to the channel `at`, i edges from where the row begins; each of its later channels is farther.
-pub record Trail (e : ℕ → ℕ → Bool) (n : ℕ) (row : Distances) (a hops : ℕ) (was is : List ℕ) (i at : ℕ) : Type 0 where
+-- Where a row from a knows no channel that leads to a, no way does.
+pub none_open : (e : ℕ → ℕ → Bool) (n : ℕ) (row : Distances) (a : ℕ) → ((v : ℕ) → Fewest e n a v (hops_to row v)) → a < n
+    → ((b : ℕ) → b < n → e b a ≡ true → hops_to row b ≡ None) → Open e n a
+none_open e n row a F h C = record { none = λ b k t bn w. subst (λ (o : Option ℕ). Fewest e n a b o) (C b bn t) (F b) h bn k w }
+
+-- A way round that is written from its end back to the channel `at`, i edges from the first; each of its later channels is farther.
+pub record Trail (e : ℕ → ℕ → Bool) (n : ℕ) (r : Round) (was is : List ℕ) (i at : ℕ) : Type 0 where
   pub tail : List ℕ
   pub here : at < n
-  pub place : hops_to row at ≡ Some i
-  pub linked : chained e a at tail ≡ true
+  pub place : hops_to r.row at ≡ Some i
+  pub linked : chained e r.first at tail ≡ true
   pub apart : different (at ∷ tail) ≡ true
-  pub far : (x : ℕ) → is_in x tail ≡ true → (j : ℕ) → hops_to row x ≡ Some j → i < j
-  pub size : length tail + i ≡ hops
-  pub list : is ≡ take i was ++ ((at ∷ tail) ++ drop (hops + 1) was)
+  pub far : (x : ℕ) → is_in x tail ≡ true → (j : ℕ) → hops_to r.row x ≡ Some j → i < j
+  pub size : length tail + i ≡ r.hops
+  pub list : is ≡ take i was ++ ((at ∷ tail) ++ drop (r.hops + 1) was)
 
-module _ (e : ℕ → ℕ → Bool) (n : ℕ) (row : Distances) (a : ℕ) where
-  abbrev pub Rowed : Type 0
-  Rowed = (v : ℕ) → Fewest e n a v (hops_to row v)
+module _ (e : ℕ → ℕ → Bool) (n : ℕ) (r : Round) (R : Rounds e n r) where
+  at_some : (v k : ℕ) → hops_to r.row v ≡ Some k → Fewest e n r.first v (Some k)
+  at_some v k q = subst (λ (o : Option ℕ). Fewest e n r.first v o) q (R.row v)
 
-  at_some : Rowed → (v k : ℕ) → hops_to row v ≡ Some k → Fewest e n a v (Some k)
-  at_some F v k q = subst (λ (o : Option ℕ). Fewest e n a v o) q (F v)
-
-  pub near : Rowed → (v k : ℕ) → hops_to row v ≡ Some k → k < n
-  near F v k q = (at_some F v k q).2
-
-  pub none_open : Rowed → a < n → Closes e n row a None → Open e n a
-  none_open F h C b k t bn w = subst (λ (o : Option ℕ). Fewest e n a b o) (C b bn t) (F b) h bn k w
+  pub near : r.hops < n
+  near = (at_some r.last r.hops R.closes.far).2
 
   -- A node one edge nearer leads to each node but the first.
-  pub nearer : Rowed → (v j : ℕ) → hops_to row v ≡ Some (suc j) → (b : ℕ) × Before e n row j v b
-  nearer F v j q =
-      let f = at_some F v (suc j) q in
+  pub nearer : (v i j : ℕ) → hops_to r.row v ≡ Some i → i ≡ suc j → (b : ℕ) × Before e n r.row j v b
+  nearer v i j q s =
+      let f = at_some v (suc j) (q ∙ ap (λ (z : ℕ). Some z) s) in
       let w = f.3 in
       let m = w.0 in
-      elim (option_cases (hops_to row m)) [
-        | inl o ↦ absurd (subst (λ (o : Option ℕ). Fewest e n a m o) o (F m) f.0 w.1 j w.2)
+      elim (option_cases (hops_to r.row m)) [
+        | inl o ↦ absurd (subst (λ (o : Option ℕ). Fewest e n r.first m o) o (R.row m) f.0 w.1 j w.2)
         | inr k ↦
-            let g = at_some F m k.0 k.1 in
+            let g = at_some m k.0 k.1 in
             let least = g.4 j w.2 in
             let most = f.4 (suc k.0) (m, w.1, g.3, w.3) in
             let same : k.0 ≡ j = omega arith in
-            (m, (w.1, k.1 ∙ ap (λ (z : ℕ). Some z) same, w.3))
+            (m, record { inside = w.1; far = k.1 ∙ ap (λ (z : ℕ). Some z) same; leads = w.3 })
       ]
 
-  module _ (hops : ℕ) (was : List ℕ) where
-    pub trail_first : (last : ℕ) → Before e n row hops a last → hops < length was → get_or was hops 0 ≡ last → Trail e n row a hops was was hops last
-    trail_first last B l q =
+  module _ (was : List ℕ) (room : n ≤ length was) where
+    pub trail_first : Trail e n r was (set was r.hops r.last) r.hops r.last
+    trail_first =
+        let l = near in
         record {
           tail = [];
-          here = B.0;
-          place = B.1;
-          linked = B.2;
+          here = R.closes.inside;
+          place = R.closes.far;
+          linked = R.closes.leads;
           apart = refl;
           far = λ x i. absurd (false≢true i);
           size = omega arith;
-          list = sym (take-append-drop hops was)
-              ∙ ap (λ (xs : List ℕ). take hops was ++ xs) (drop_more was hops 0 l ∙ ap (λ (x : ℕ). x ∷ drop (hops + 1) was) q);
+          list = set_split was r.hops r.last (omega arith) ∙ ap (λ (k : ℕ). take r.hops was ++ (r.last ∷ drop k was)) (sym (add-one r.hops));
         }
 
-    pub trail_more : (is : List ℕ) (i j at b : ℕ) → Trail e n row a hops was is i at → i ≡ j + 1 → hops < length was → Before e n row j at b
-        → Trail e n row a hops was (set is j b) j b
-    trail_more is i j at b T q l B =
+    pub trail_more : (is : List ℕ) (i j at b : ℕ) → Trail e n r was is i at → i ≡ j + 1 → Before e n r.row j at b → Trail e n r was (set is j b) j b
+    trail_more is i j at b T q B =
         let size = T.size in
+        let l = near in
         record {
           tail = at ∷ T.tail;
-          here = B.0;
-          place = B.1;
-          linked = and_from (e b at) (chained e a at T.tail) B.2 T.linked;
-          apart = different_more b (at ∷ T.tail) (λ m. let z = later b m j B.1 in omega arith) T.apart;
+          here = B.inside;
+          place = B.far;
+          linked = and_from (e b at) (chained e r.first at T.tail) B.leads T.linked;
+          apart = different_more b (at ∷ T.tail) (λ m. let z = later b m j B.far in omega arith) T.apart;
           far = later;
           size = omega arith;
           list = ap (λ (xs : List ℕ). set xs j b) (T.list ∙ ap (λ (m : ℕ). take m was ++ onward) q
@@ -83,35 +83,34 @@ module _ (e : ℕ → ℕ → Bool) (n : ℕ) (row : Distances) (a : ℕ) where
         }
       where
         onward : List ℕ
-        onward = (at ∷ T.tail) ++ drop (hops + 1) was
+        onward = (at ∷ T.tail) ++ drop (r.hops + 1) was
 
-        later : (x : ℕ) → is_in x (at ∷ T.tail) ≡ true → (k : ℕ) → hops_to row x ≡ Some k → j < k
+        later : (x : ℕ) → is_in x (at ∷ T.tail) ≡ true → (k : ℕ) → hops_to r.row x ≡ Some k → j < k
         later x m k p =
             elim (is_in_cases x at T.tail m) [
               | inl s ↦
-                  let o : ◌≡◌ {A = Option ℕ} (Some i) (Some k) = sym T.place ∙ ap (hops_to row) (sym s) ∙ p in
+                  let o : ◌≡◌ {A = Option ℕ} (Some i) (Some k) = sym T.place ∙ ap (hops_to r.row) (sym s) ∙ p in
                   let z : i ≡ k = cc in
                   omega arith
               | inr s ↦ let z = T.far x s k p in omega arith
             ]
 
-    pub trail_end : (before is : List ℕ) (i at : ℕ) → Trail e n row a hops was is i at → Rowed → i ≡ 0 → ((c : ℕ) → e c c ≡ false)
-        → drop (hops + 1) was ≡ drop (hops + 1) before → Looped e (hops + 1) before is
-    trail_end before is i at T F q none same =
-        let first : a ≡ at = (at_some F at 0 (T.place ∙ ap (λ (z : ℕ). Some z) q)).3 in
-        let linked : chained e at at T.tail ≡ true = subst (λ (z : ℕ). chained e z at T.tail ≡ true) first T.linked in
-        let size = T.size in
-        record {
-          cycle = at ∷ T.tail;
-          round = and_from (leb 2 (length (at ∷ T.tail)) && different (at ∷ T.tail)) (chained e at at T.tail)
-              (and_from (leb 2 (length (at ∷ T.tail))) (different (at ∷ T.tail)) (two T.tail linked) T.apart) linked;
-          size = omega arith;
-          list = T.list ∙ ap (λ (m : ℕ). take m was ++ ((at ∷ T.tail) ++ drop (hops + 1) was)) q ∙ ap (λ (z : List ℕ). (at ∷ T.tail) ++ z) same;
-        }
-      where
-        two : (cs : List ℕ) → chained e at at cs ≡ true → leb 2 (length (at ∷ cs)) ≡ true
-        two [] h = absurd (both_ways (e at at) (none at) h)
-        two (c ∷ cs) h = le-leb 2 (length (at ∷ (c ∷ cs))) (omega arith)
+  pub trail_end : (was is : List ℕ) (i at : ℕ) → Trail e n r was is i at → i ≡ 0 → ((c : ℕ) → e c c ≡ false) → Looped e (r.hops + 1) was is
+  trail_end was is i at T q none =
+      let first : r.first ≡ at = (at_some at 0 (T.place ∙ ap (λ (z : ℕ). Some z) q)).3 in
+      let linked : chained e at at T.tail ≡ true = subst (λ (z : ℕ). chained e z at T.tail ≡ true) first T.linked in
+      let size = T.size in
+      record {
+        cycle = at ∷ T.tail;
+        round = and_from (leb 2 (length (at ∷ T.tail)) && different (at ∷ T.tail)) (chained e at at T.tail)
+            (and_from (leb 2 (length (at ∷ T.tail))) (different (at ∷ T.tail)) (two T.tail linked) T.apart) linked;
+        size = omega arith;
+        list = T.list ∙ ap (λ (m : ℕ). take m was ++ ((at ∷ T.tail) ++ drop (r.hops + 1) was)) q;
+      }
+    where
+      two : (cs : List ℕ) → chained e at at cs ≡ true → leb 2 (length (at ∷ cs)) ≡ true
+      two [] h = absurd (both_ways (e at at) (none at) h)
+      two (c ∷ cs) h = le-leb 2 (length (at ∷ (c ∷ cs))) (omega arith)
 
 -- A cycle leads from its first channel round to it.
 module _ (e : ℕ → ℕ → Bool) (n : ℕ) where
@@ -132,4 +131,4 @@ module _ (e : ℕ → ℕ → Bool) (n : ℕ) where
   not_all_open inside [] h o = false≢true h
   not_all_open inside (a ∷ cs) h o =
       let r = round inside a a cs (and_parts (leb 2 (length (a ∷ cs)) && different (a ∷ cs)) (chained e a a cs) h).1 in
-      o a (inside r.0 a r.2).1 r.0 r.1 r.2 r.3 r.4
+      (o a (inside r.0 a r.2).1).none r.0 r.1 r.2 r.3 r.4

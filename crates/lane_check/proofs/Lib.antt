@@ -1,9 +1,7 @@
-pub mod Stepping
 pub mod Listing
 pub mod Adding
-pub mod Apart
 pub mod Sorting
 pub mod Circling
-pub mod Faulting
+pub mod Ranging
 pub mod Laning
 pub mod Settling

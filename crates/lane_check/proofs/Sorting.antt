@@ -1,13 +1,14 @@
 -- What the code of the order does, turn by turn.
-use Rattle.std.proofs.Common.{◌≡◌, ℕ, zero, suc, ◌+◌, ◌-◌, ◌<◌, ◌≤◌, Bool, true, false, cond, not, ◌&&◌, eqb, ltb, List, [], ◌∷◌, ◌++◌, length, get_or, take, set, replicate, Some, None, Option, sym, refl, ap, ◌∙◌, subst, inl, inr, arith}
-use Rattle.std.proofs.lemmas.List.{append_assoc, append-nil, get_or_past, get_or-replicate, get_or-set_same, get_or-set_other, length-set, take_more_set, nil_from_length}
+use Rattle.std.proofs.Common.{◌≡◌, ℕ, zero, suc, ◌+◌, ◌-◌, ◌<◌, ◌≤◌, Bool, true, false, cond, not, ◌&&◌, eqb, ltb, List, [], ◌∷◌, ◌++◌, length, get_or, set, replicate, Some, None, IfSome, Option, sym, refl, ap, ◌∙◌, subst, inl, inr, arith, below_more}
+use Rattle.std.specs.Option.{is_some}
+use Rattle.std.proofs.lemmas.List.{append_assoc, append-nil, get_or_past, get_or-replicate, get_or-set_same, get_or-set_other, length_push, nil_from_length}
 use Rattle.std.proofs.lemmas.Bool.{and_parts, and_from, and_right, and_left, both_ways, not-false, eqb-true, eq-eqb, ne_eqb, ltb-true, cases_eq, cases_lt, cases_Bool}
 use Rattle.model.specs.Lists.{up_from, below, all_of, first, keep, is_in, without, is_empty, different}
 use Rattle.model.specs.Routes.{Edge, has}
 use Rattle.model.specs.Order.{free, order_from, rest_from, order_of, completes}
 use Rattle.model.proofs.Members.{is_in_cases, is_in_at, is_in_there, any_keep, all_of_any, all_of_fails, all_from, is_in_below, below_in, all_below, different_more, different_parts, different_up_from, first_in, without_one, length-up_from}
 use Rattle.model.proofs.Ordering.{free_before}
-use Rattle.lane_check.specs.Orders.{marked, blocks, Blocked, Watched, NextFree, Sorted}
+use Rattle.lane_check.specs.Orders.{waits, blocks, Blocked, Watched, Free, Held, HeldBelow, NextFree}
 use Rattle.lane_check.proofs.Listing.{any_kept}
 
 -- The elements that pass, and the first of them.
@@ -126,10 +127,10 @@ module _ (es : List Edge) (e : ℕ → ℕ → Bool) (same : (b c : ℕ) → e b
           ]
 
       found : (r : Option ℕ) → NextFree e w n r → first f (below n) ≡ r
-      found None F = first_nowhere f n 0 (λ x a b. stays x (F x (omega arith)))
+      found None F = first_nowhere f n 0 (λ x a b. stays x (F.each x (omega arith)).blocked)
       found (Some c) F =
-          first_lowest f n 0 c (and_from (w c) (free es (keep w (below n)) c) F.1 (free_yes w c F.2)) (omega arith) (omega (arith, F.0))
-          (λ x a b. stays x (F.3 x b))
+          first_lowest f n 0 c (and_from (w c) (free es (keep w (below n)) c) F.1.waiting (free_yes w c F.1.alone)) (omega arith) (omega (arith, F.0))
+          (λ x a b. stays x (F.2.each x b).blocked)
 
 module _ (es : List Edge) where
   order_on : (m k c : ℕ) (rest : List ℕ) → m ≡ suc k → first (free es rest) rest ≡ Some c
@@ -147,121 +148,124 @@ module _ (es : List Edge) where
   rest_stop zero rest e = refl
   rest_stop (suc m) rest e = ap (λ (o : Option ℕ). elim o as (λ _. List ℕ) [ None ↦ rest | Some c ↦ rest_from es m (without c rest) ]) e
 
--- After k turns, by the model's order: the list has its front, and those that wait are left.
+-- After k turns, by the model's order: the list is its front, and those that wait are left.
 pub record Turning (n : ℕ) (es : List Edge) (list : List ℕ) (w : ℕ → Bool) (k : ℕ) : Type 0 where
-  pub order : order_of n es ≡ take k list ++ order_from es (n - k) (keep w (below n))
+  pub order : order_of n es ≡ list ++ order_from es (n - k) (keep w (below n))
   pub rest : rest_from es n (below n) ≡ rest_from es (n - k) (keep w (below n))
   pub size : length (keep w (below n)) + k ≡ n
 
--- The same of the code's lists.
-pub record Turned (n : ℕ) (e : ℕ → ℕ → Bool) (list : List ℕ) (waits : List Bool) (watch : List ℕ) (k : ℕ) : Type 0 where
-  pub wide : length list ≡ 128
-  pub long : length waits ≡ 128
-  pub watched : Watched e (marked waits) watch
-  pub each : (es : List Edge) → ((b c : ℕ) → e b c ≡ has es b c) → Turning n es list (marked waits) k
+-- The same of the code's list and watch.
+pub record Turned (n : ℕ) (e : ℕ → ℕ → Bool) (list : List ℕ) (watch : List (Option ℕ)) (k : ℕ) : Type 0 where
+  pub taken : length list ≡ k
+  pub watched : Watched e watch
+  pub each : (es : List Edge) → ((b c : ℕ) → e b c ≡ has es b c) → Turning n es list (waits watch) k
 
 module _ (n : ℕ) (e : ℕ → ℕ → Bool) (few : n ≤ 128) where
-  pub turned_none : Turned n e (replicate 128 0) (replicate 128 true) (replicate 128 0) 0
+  pub turned_none : Turned n e [] (replicate 128 (Some 0)) 0
   turned_none =
       record {
-        wide = refl;
-        long = refl;
-        watched = λ c b h. absurd (nothing c b h);
+        taken = refl;
+        watched = λ c. elim (cases_lt c 128) [
+          | inl h ↦ rw get_or-replicate (λ b l. absurd (omega arith))
+          | inr h ↦ rw get_or_past tt
+        ];
         each = λ es same. record {
-          order = ap (order_from es n) (sym all) ∙ ap (λ (m : ℕ). order_from es m (keep (marked (replicate 128 true)) (below n))) (whole n);
-          rest = ap (rest_from es n) (sym all) ∙ ap (λ (m : ℕ). rest_from es m (keep (marked (replicate 128 true)) (below n))) (whole n);
+          order = ap (order_from es n) (sym all) ∙ ap (λ (m : ℕ). order_from es m (keep (waits (replicate 128 (Some 0))) (below n))) (whole n);
+          rest = ap (rest_from es n) (sym all) ∙ ap (λ (m : ℕ). rest_from es m (keep (waits (replicate 128 (Some 0))) (below n))) (whole n);
           size = ap (λ (xs : List ℕ). length xs + 0) all ∙ (let l = length-up_from n 0 in omega arith);
         };
       }
     where
-      nothing : (c b : ℕ) → b < get_or (replicate 128 0) c 0 → ⊥
-      nothing c b h = elim (cases_lt c 128) [
-        | inl k ↦ let z : get_or (replicate {A = ℕ} 128 0) c 0 ≡ 0 = get_or-replicate 128 c 0 0 k in omega arith
-        | inr k ↦ let z : get_or (replicate {A = ℕ} 128 0) c 0 ≡ 0 = get_or_past (replicate {A = ℕ} 128 0) c 0 k in omega arith
-      ]
-
       whole : (m : ℕ) → m ≡ m - 0
       whole m = omega arith
 
-      all : keep (marked (replicate 128 true)) (below n) ≡ below n
-      all = keep_all (marked (replicate 128 true)) (below n)
-          (all_from (marked (replicate 128 true)) (below n) (λ x i.
-          get_or-replicate 128 x true false (let h = below_in n x i in omega arith)))
+      all : keep (waits (replicate 128 (Some 0))) (below n) ≡ below n
+      all = keep_all (waits (replicate 128 (Some 0))) (below n)
+          (all_from (waits (replicate 128 (Some 0))) (below n) (λ x i.
+          ap is_some (get_or-replicate 128 x (Some 0) None (let h = below_in n x i in omega arith))))
 
-  module _ (list : List ℕ) (waits : List Bool) (watch : List ℕ) (k : ℕ) (T : Turned n e list waits watch k) where
+  module _ (list : List ℕ) (watch : List (Option ℕ)) (k : ℕ) (T : Turned n e list watch k) where
     -- Nothing is free, and something is left.
-    pub turned_stuck : k < n → NextFree e (marked waits) n None → (es : List Edge) → ((b c : ℕ) → e b c ≡ has es b c) → completes n es ≡ false
+    pub turned_stuck : k < n → NextFree e (waits watch) n None → (es : List Edge) → ((b c : ℕ) → e b c ≡ has es b c) → completes n es ≡ false
     turned_stuck h F es same =
         let t = T.each es same in
-        let r : rest_from es n (below n) ≡ keep (marked waits) (below n) = t.rest ∙ rest_stop es (n - k) _ (next_first es e same n (marked waits) None F) in
-        ap is_empty r ∙ some (keep (marked waits) (below n)) t.size
+        let r : rest_from es n (below n) ≡ keep (waits watch) (below n) = t.rest ∙ rest_stop es (n - k) _ (next_first es e same n (waits watch) None F) in
+        ap is_empty r ∙ some (keep (waits watch) (below n)) t.size
       where
         some : (xs : List ℕ) → length xs + k ≡ n → is_empty xs ≡ false
         some [] l = absurd (omega arith)
         some (x ∷ xs) l = refl
 
-    pub turned_more : (watch' : List ℕ) (c : ℕ) → k < n → NextFree e (marked waits) n (Some c) → Watched e (marked waits) watch'
-        → Turned n e (set list k c) (set waits c false) watch' (k + 1)
-    turned_more watch' c h F V =
-        let wide = T.wide in
-        let long = T.long in
+    pub turned_more : (watch' : List (Option ℕ)) (c : ℕ) → k < n → NextFree e (waits watch) n (Some c) → waits watch' ≡ waits watch
+        → length watch' ≡ 128 → Watched e watch' → Turned n e (list ++ c ∷ []) (set watch' c None) (k + 1)
+    turned_more watch' c h F S L V =
         record {
-          wide = length-set list k c ∙ T.wide;
-          long = length-set waits c false ∙ T.long;
-          watched = λ x b l. ap (λ (t : Bool). t && e b x) (fewer b) ∙ gone b x (V x b l);
+          taken = length_push list c ∙ ap (λ (m : ℕ). m + 1) T.taken;
+          watched = λ x. elim (cases_eq x c) [
+            | inl q ↦ rw (q, get_or-set_same watch' c None None (omega (arith, F.0))) tt
+            | inr q ↦ rw (get_or-set_other watch' c x None None q) (still x (get_or watch' x None) (V x))
+          ];
           each = λ es same.
               let t = T.each es same in
-              let next = next_first es e same n (marked waits) (Some c) F in
-              let on = order_on es (n - k) (n - (k + 1)) c (keep (marked waits) (below n)) (omega arith) next in
-              let one = without_one c (keep (marked waits) (below n)) (different_kept (marked waits) (below n) (different_up_from n 0))
-              (first_in (free es (keep (marked waits) (below n))) (keep (marked waits) (below n)) c next) in
+              let next = next_first es e same n (waits watch) (Some c) F in
+              let on = order_on es (n - k) (n - (k + 1)) c (keep (waits watch) (below n)) (omega arith) next in
+              let one = without_one c (keep (waits watch) (below n)) (different_kept (waits watch) (below n) (different_up_from n 0))
+              (first_in (free es (keep (waits watch) (below n))) (keep (waits watch) (below n)) c next) in
               let l = ap length less in
               record {
-                order = t.order ∙ ap (λ (z : List ℕ). take k list ++ z) (on.0 ∙ ap (λ (z : List ℕ). c ∷ order_from es (n - (k + 1)) z) (sym less))
-                    ∙ sym (append_assoc (take k list) (c ∷ []) (order_from es (n - (k + 1)) (keep (marked (set waits c false)) (below n))))
-                    ∙ ap (λ (z : List ℕ). z ++ order_from es (n - (k + 1)) (keep (marked (set waits c false)) (below n)))
-                    (sym (take_more_set list k c (omega arith)));
+                order = t.order ∙ ap (λ (z : List ℕ). list ++ z) (on.0 ∙ ap (λ (z : List ℕ). c ∷ order_from es (n - (k + 1)) z) (sym less))
+                    ∙ sym (append_assoc list (c ∷ []) (order_from es (n - (k + 1)) (keep (waits (set watch' c None)) (below n))));
                 rest = t.rest ∙ on.1 ∙ ap (rest_from es (n - (k + 1))) (sym less);
                 size = omega (arith, one.1, t.size, l);
               };
         }
       where
-        fewer : (x : ℕ) → marked (set waits c false) x ≡ (marked waits x && not (eqb c x))
+        fewer : (x : ℕ) → waits (set watch' c None) x ≡ (waits watch x && not (eqb c x))
         fewer x =
             elim (cases_eq x c) [
               | inl q ↦
-                  let l = T.long in
                   let m = F.0 in
-                  ap (λ (z : ℕ). marked (set waits c false) z) q ∙ get_or-set_same waits c false false (omega arith)
-                  ∙ sym (and_right (marked waits x) (not (eqb c x)) (ap not (eq-eqb c x (sym q))))
+                  ap (λ (z : ℕ). waits (set watch' c None) z) q ∙ ap is_some (get_or-set_same watch' c None None (omega arith))
+                  ∙ sym (and_right (waits watch x) (not (eqb c x)) (ap not (eq-eqb c x (sym q))))
               | inr q ↦
-                  get_or-set_other waits c x false false q
-                  ∙ sym (ap (λ (t : Bool). marked waits x && not t) (ne_eqb c x (λ z. q (sym z))) ∙ and_yes (marked waits x))
+                  ap is_some (get_or-set_other watch' c x None None q) ∙ ap (λ (w : ℕ → Bool). w x) S
+                  ∙ sym (ap (λ (t : Bool). waits watch x && not t) (ne_eqb c x (λ z. q (sym z))) ∙ and_yes (waits watch x))
             ]
           where
             and_yes : (t : Bool) → (t && true) ≡ t
             and_yes true = refl
             and_yes false = refl
 
-        gone : (b x : ℕ) → blocks e (marked waits) x b ≡ false → (marked waits b && not (eqb c b) && e b x) ≡ false
-        gone b x q = drops (marked waits b) (not (eqb c b)) (e b x) q
+        still : (x : ℕ) (o : Option ℕ) → IfSome o (λ a. (b : ℕ) → b < a → blocks e (waits watch') x b ≡ false)
+            → IfSome o (λ a. (b : ℕ) → b < a → blocks e (waits (set watch' c None)) x b ≡ false)
+        still x None V = tt
+        still x (Some a) V = λ b l. ap (λ (t : Bool). t && e b x) (fewer b ∙ ap (λ (w : ℕ → Bool). w b && not (eqb c b)) (sym S)) ∙ drops (waits watch' b) (not (eqb c b)) (e b x) (V b l)
           where
             drops : (x y z : Bool) → (x && z) ≡ false → (x && y && z) ≡ false
             drops true true z p = p
             drops true false z p = refl
             drops false y z p = refl
 
-        less : keep (marked (set waits c false)) (below n) ≡ without c (keep (marked waits) (below n))
+        less : keep (waits (set watch' c None)) (below n) ≡ without c (keep (waits watch) (below n))
         less =
-            keep_same (marked (set waits c false)) (λ x. marked waits x && not (eqb c x)) (below n) fewer
-            ∙ sym (keep_keep (marked waits) (λ x. not (eqb c x)) (below n))
+            keep_same (waits (set watch' c None)) (λ x. waits watch x && not (eqb c x)) (below n) fewer
+            ∙ sym (keep_keep (waits watch) (λ x. not (eqb c x)) (below n))
 
-    pub turned_all : k ≡ n → (es : List Edge) → ((b c : ℕ) → e b c ≡ has es b c) → Sorted n es (Some list)
+    pub turned_all : k ≡ n → (es : List Edge) → ((b c : ℕ) → e b c ≡ has es b c) → (completes n es ≡ true) × (list ≡ order_of n es)
     turned_all q es same =
         let t = T.each es same in
         let over : n - k ≡ 0 = omega arith in
-        let z : keep (marked waits) (below n) ≡ [] = nil_from_length (keep (marked waits) (below n)) (omega (arith, t.size)) in (
+        let z : keep (waits watch) (below n) ≡ [] = nil_from_length (keep (waits watch) (below n)) (omega (arith, t.size)) in (
           ap is_empty (t.rest ∙ ap (rest_from es (n - k)) z ∙ rest_stop es (n - k) [] refl),
-          sym (t.order ∙ ap (λ (y : List ℕ). take k list ++ order_from es (n - k) y) z
-              ∙ ap (λ (m : ℕ). take k list ++ order_from es m []) over ∙ append-nil (take k list) ∙ ap (λ (m : ℕ). take m list) q),
+          sym (t.order ∙ ap (λ (y : List ℕ). list ++ order_from es (n - k) y) z
+              ∙ ap (λ (m : ℕ). list ++ order_from es m []) over ∙ append-nil list),
         )
+
+-- What is free or held by one watch is so by another for which the same channels wait.
+module _ (e : ℕ → ℕ → Bool) (n : ℕ) where
+  pub free_same : (c : ℕ) (xs ys : List (Option ℕ)) → waits xs ≡ waits ys → Free e (waits xs) n c → Free e (waits ys) n c
+  free_same c xs ys q f = subst (λ (w : ℕ → Bool). Free e w n c) q f
+
+  pub held_more : (k : ℕ) (xs ys : List (Option ℕ)) → waits xs ≡ waits ys → Held e (waits xs) n k → HeldBelow e (waits ys) n k
+      → HeldBelow e (waits ys) n (k + 1)
+  held_more k xs ys q h b = record { each = below_more _ _ b.each (subst (λ (w : ℕ → Bool). Held e w n k) q h) }

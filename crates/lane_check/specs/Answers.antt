@@ -9,8 +9,8 @@ use Rattle.model.specs.Run.{missing_number}
 use Rattle.model.specs.Verdicts.{fine, cyclic, lanes_verdict, verdict}
 use Rattle.routing.specs.Faults.{rule_refusal}
 use Rattle.routing.specs.declared.fault.RuleFault.{RuleFault}
+use Rattle.routing.specs.declared.fault.RuleFault.TheVariants.{Cyclic}
 use Rattle.lane_check.specs.declared.verdict.Accepted.{Accepted}
-use Rattle.lane_check.specs.declared.verdict.lanes.CyclicLane.{CyclicLane}
 use Rattle.lane_check.specs.Checks.{short_list, orders}
 use Rattle.lane_check.specs.Circles.{Looped}
 
@@ -22,15 +22,15 @@ accepted g = record { lanes = g.lanes; channels = count g.net }
 abbrev pub Paired : Setup → Type 0
 Paired g = verdict g ≡ lanes_verdict g.net g.rule (below g.lanes)
 
--- The lowest lane with a cycle, and the cycle list before and after.
-abbrev pub CyclicOr : Setup → List ℕ → List ℕ → Option CyclicLane → Type 0
-CyclicOr g c c' None = (verdict g ≡ fine) × (c' ≡ c)
-CyclicOr g c c' (Some x) = (verdict g ≡ cyclic x.lane) × Looped (depends g.net g.rule x.lane) x.length c c'
+-- A fault names the lowest lane with a cycle, and the cycle is written; without one the setup is fine. The cycle list before and after.
+abbrev pub CyclicOr : Setup → List ℕ → List ℕ → Result (Unit {0}) RuleFault → Type 0
+CyclicOr g c c' (Ok _) = (verdict g ≡ fine) × (c' ≡ c)
+CyclicOr g c c' (Err f) = (ℓ : ℕ) × (k : ℕ) × (f ≡ Cyclic ℓ k) × (verdict g ≡ cyclic ℓ) × Looped (depends g.net g.rule ℓ) k c c'
 
 -- The same with the order list: the orders are written where no lane has a cycle.
-abbrev pub LanesSettled : Setup → List ℕ → List ℕ → List ℕ → List ℕ → Option CyclicLane → Type 0
-LanesSettled g o o' c c' None = CyclicOr g c c' None × (o' ≡ orders g ++ drop (g.lanes * count g.net) o)
-LanesSettled g o o' c c' (Some x) = CyclicOr g c c' (Some x) × (o' ≡ o)
+abbrev pub LanesSettled : Setup → List ℕ → List ℕ → List ℕ → List ℕ → Result (Unit {0}) RuleFault → Type 0
+LanesSettled g o o' c c' (Ok x) = CyclicOr g c c' (Ok x) × (o' ≡ orders g ++ drop (g.lanes * count g.net) o)
+LanesSettled g o o' c c' (Err f) = CyclicOr g c c' (Err f) × (o' ≡ o)
 
 -- The length of the cycle that a refusal names; 0 where it names none.
 abbrev pub cycle_length : Option Refusal → ℕ

@@ -1,5 +1,4 @@
-pub mod Walks
-pub mod Cells
+pub mod Notes
 pub mod Orders
 pub mod Circles
 pub mod Findings

@@ -4,11 +4,11 @@
 
 pub mod lane;
 mod pairs;
+mod setup;
 pub mod verdict;
-mod walk;
 
-pub use lane::Dependencies;
 pub use lane::noting::dependencies;
+pub use routing::Dependencies;
 pub use verdict::{Accepted, check, showing};
 
 #[cfg(test)]

@@ -1,71 +1,51 @@
-ghost use Rattle.std.specs.Prelude.{◌≡◌, [], ◌∷◌, nat_lt};
-ghost use Rattle.model.specs.Lists.{below};
-ghost use Rattle.model.specs.Routes.{pairs_of};
-ghost use Rattle.fabric.specs.Of.{net};
-ghost use Rattle.lane_check.specs.Findings.{FirstFault, pairs_to};
+ghost use Rattle.std.specs.Prelude.{◌≡◌, true, nat_lt};
+ghost use Rattle.model.specs.Net.{is_pair};
+ghost use Rattle.fabric.specs.Pairs.{plain_pair};
+ghost use Rattle.lane_check.specs.Checks.{model_of};
+ghost use Rattle.lane_check.specs.Findings.{PairFault, FirstFault};
 
-use crate::walk::{Ending, route_ending};
-use fabric::Fabric;
-use routing::{RouteRule, RuleFault};
+use crate::setup::Setup;
+use fabric::Pair;
+use routing::{Ending, RouteRule, RuleFault, route_ending};
 
-// Whether the lane of a pair is below the lane count.
-fn is_laned<R: RouteRule>(lanes: u32, rule: &R, source: u8, destination: u8) -> bool
-    ensures { result ≡ nat_lt ((R.maps rule.now).lane source destination) lanes }
-{
-    (rule.lane(source, destination) as u32) < lanes
-}
-
-// What is wrong with a pair; nothing where the two switches are the same.
-fn pair_fault<R: RouteRule>(
-    fabric: &Fabric,
-    lanes: u32,
-    rule: &R,
-    source: u8,
-    destination: u8,
-) -> Option<RuleFault>
-    ensures { FirstFault (net fabric.now) lanes (R.maps rule.now) (pairs_to source (destination ∷ [])) result }
-{
-    if source == destination {
-        return None;
+impl<R: RouteRule> Setup<'_, '_, R> {
+    // Whether the lane of a pair is below the lane count.
+    fn is_laned(&self, pair: Pair) -> bool
+        ensures { result ≡ nat_lt ((R.maps self.now.rule.now).lane pair.source pair.destination) self.now.lanes.lanes }
+    {
+        u32::from(self.rule.lane(pair.source, pair.destination)) < self.lanes.get()
     }
-    match route_ending(fabric, rule, source, destination) {
-        Ending::Stops(at) => Some(RuleFault::Stopped(source, destination, at)),
-        Ending::Tires => Some(RuleFault::Unreached(source, destination)),
-        Ending::Arrives => {
-            if is_laned(lanes, rule, source, destination) {
-                None
-            } else {
-                Some(RuleFault::Laneless(source, destination))
-            }
+
+    // Whether a pair arrives, in a lane below the lane count.
+    fn judge_pair(&self, pair: Pair) -> Result<(), RuleFault>
+        requires { is_pair (model_of R.maps self.now).net.switches pair.source pair.destination ≡ true }
+        ensures { PairFault (model_of R.maps self.now) (plain_pair pair) result }
+    {
+        let Pair {
+            source,
+            destination,
+        } = pair;
+        match route_ending(
+            self.fabric,
+            self.rule,
+            u32::from(source),
+            u32::from(destination),
+        ) {
+            Some(Ending::Stops(at)) => Err(RuleFault::Stopped(source, destination, at)),
+            Some(Ending::Tires) => Err(RuleFault::Unreached(source, destination)),
+            Some(Ending::Arrives) if self.is_laned(pair) => Ok(()),
+            Some(Ending::Arrives) => Err(RuleFault::Laneless(source, destination)),
+            None => Ok(()),
         }
     }
-}
 
-// The first fault of the pairs from one source, by destination.
-fn source_fault<R: RouteRule>(
-    fabric: &Fabric,
-    lanes: u32,
-    rule: &R,
-    source: u8,
-) -> Option<RuleFault>
-    ensures { FirstFault (net fabric.now) lanes (R.maps rule.now) (pairs_to source (below (net fabric.now).switches)) result }
-{
-    for destination in 0..fabric.switch_count() {
-        if let Some(fault) = pair_fault(fabric, lanes, rule, source, destination as u8) {
-            return Some(fault);
+    // The first fault of all pairs, by source, then destination.
+    pub(crate) fn judge_pairs(&self) -> Result<(), RuleFault>
+        ensures { FirstFault (model_of R.maps self.now) result }
+    {
+        for pair in self.fabric.pairs() {
+            self.judge_pair(pair)?;
         }
+        Ok(())
     }
-    None
-}
-
-// The first fault of all pairs, by source, then destination.
-pub(crate) fn pairs_fault<R: RouteRule>(fabric: &Fabric, lanes: u32, rule: &R) -> Option<RuleFault>
-    ensures { FirstFault (net fabric.now) lanes (R.maps rule.now) (pairs_of (net fabric.now).switches) result }
-{
-    for source in 0..fabric.switch_count() {
-        if let Some(fault) = source_fault(fabric, lanes, rule, source as u8) {
-            return Some(fault);
-        }
-    }
-    None
 }

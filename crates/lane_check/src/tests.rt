@@ -1,9 +1,6 @@
-ghost use Rattle.std.specs.Prelude.{◌+◌, ◌*◌, length, if◌then◌else◌, None, nat_lt, slice_index};
-ghost use Rattle.model.specs.Rules.{channel_byte};
-
 use crate::verdict::{check, showing};
 use fabric::{CallFault, Fabric};
-use routing::{RouteRule, RuleFault};
+use routing::{Rows, RuleFault};
 use std::test::Fail;
 
 // The ring of four switches: channel 2i goes from switch i to the next, channel 2i + 1 back.
@@ -14,34 +11,11 @@ const PLANNED: [u8; 16] = [255, 0, 0, 7, 1, 255, 2, 1, 3, 3, 255, 4, 6, 5, 5, 25
 
 const ROUND: [u8; 16] = [255, 0, 0, 7, 1, 255, 2, 2, 4, 3, 255, 4, 6, 6, 5, 255];
 
-// A rule on four switches that keeps every pair in one lane.
-#[derive(Clone, Copy)]
-struct Table<'a> {
-    channels: &'a [u8],
-    lane: u8,
-}
-
-impl<'a> RouteRule for Table<'a> {
-    ghost maps = { λ t. record { next = λ u d. (if nat_lt (u * 4 + d) (length t.channels.now) then channel_byte (slice_index t.channels.now (u * 4 + d)) else None); lane = λ s d. t.lane } };
-
-    fn channel(&self, switch: u8, destination: u8) -> Option<u8> {
-        let place = switch as usize * 4 + destination as usize;
-        if place >= self.channels.len() {
-            return None;
-        }
-        let channel = self.channels[place];
-        if channel < 255 { Some(channel) } else { None }
-    }
-
-    fn lane(&self, _source: u8, _destination: u8) -> u8 {
-        self.lane
-    }
-}
-
 #[test]
 fn a_ring_without_a_cycle_passes(rt: HostRuntime) -> Result<(), Fail> {
     let fabric = Fabric::new(rt.alloc(), 4, &RING)?;
-    let rule = Table {
+    let rule = Rows {
+        switches: 4,
         channels: &PLANNED,
         lane: 0,
     };
@@ -59,7 +33,8 @@ fn a_ring_without_a_cycle_passes(rt: HostRuntime) -> Result<(), Fail> {
 #[test]
 fn a_ring_with_a_cycle_is_refused(rt: HostRuntime) -> Result<(), Fail> {
     let fabric = Fabric::new(rt.alloc(), 4, &RING)?;
-    let rule = Table {
+    let rule = Rows {
+        switches: 4,
         channels: &ROUND,
         lane: 0,
     };
@@ -76,7 +51,8 @@ fn a_ring_with_a_cycle_is_refused(rt: HostRuntime) -> Result<(), Fail> {
 #[test]
 fn eight_lanes_pass_and_nine_do_not(rt: HostRuntime) -> Result<(), Fail> {
     let fabric = Fabric::new(rt.alloc(), 4, &RING)?;
-    let rule = Table {
+    let rule = Rows {
+        switches: 4,
         channels: &PLANNED,
         lane: 0,
     };
@@ -96,7 +72,8 @@ fn eight_lanes_pass_and_nine_do_not(rt: HostRuntime) -> Result<(), Fail> {
 #[test]
 fn a_list_one_byte_short_is_refused(rt: HostRuntime) -> Result<(), Fail> {
     let fabric = Fabric::new(rt.alloc(), 4, &RING)?;
-    let rule = Table {
+    let rule = Rows {
+        switches: 4,
         channels: &PLANNED,
         lane: 0,
     };
@@ -118,7 +95,8 @@ fn a_list_one_byte_short_is_refused(rt: HostRuntime) -> Result<(), Fail> {
 #[test]
 fn an_unfit_channel_stops_a_route(rt: HostRuntime) -> Result<(), Fail> {
     let fabric = Fabric::new(rt.alloc(), 4, &RING)?;
-    let rule = Table {
+    let rule = Rows {
+        switches: 4,
         channels: &[254; 16],
         lane: 255,
     };

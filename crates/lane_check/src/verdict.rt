@@ -2,11 +2,10 @@ ghost use Rattle.std.specs.Prelude.{◌≡◌, length, Ok, Err};
 ghost use Rattle.model.specs.Net.{count};
 ghost use Rattle.fabric.specs.Faults.{call_refusal};
 ghost use Rattle.fabric.specs.Of.{net};
-ghost use Rattle.lane_check.specs.Checks.{setup_of, few_lanes, long_enough, Checked, YesExactly};
+ghost use Rattle.lane_check.specs.Checks.{setup_of, model_of, long_enough, Checked, YesExactly};
 ghost use Rattle.lane_check.specs.Answers.{accepted, part};
 
-use crate::pairs::pairs_fault;
-use crate::verdict::lanes::settle_lanes;
+use crate::setup::Setup;
 use fabric::{CallFault, Fabric};
 use routing::{RouteRule, RuleFault};
 
@@ -19,19 +18,24 @@ pub struct Accepted {
     channels: u8,
 }
 
-// Whether the lane count is 1 to 8.
-fn few_lanes(lanes: u32) -> bool
-    ensures { result ≡ few_lanes lanes }
-{
-    1 <= lanes && lanes <= 8
-}
+impl<R: RouteRule> Setup<'_, '_, R> {
+    // A yes to the setup.
+    fn accepted(&self) -> Accepted
+        ensures { result ≡ accepted (model_of R.maps self.now) }
+    {
+        Accepted {
+            lanes: self.lanes.get() as u8,
+            channels: self.fabric.channel_count() as u8,
+        }
+    }
 
-// Whether the order list has a byte for each channel of each lane, and the cycle list one for each channel.
-fn long_enough(fabric: &Fabric, lanes: u32, order: &[u8], cycle: &[u8]) -> bool
-    ensures { result ≡ long_enough lanes (count (net fabric.now)) (length order.now) (length cycle.now) }
-{
-    let channels = fabric.channel_count() as usize;
-    lanes as usize * channels <= order.len() && channels <= cycle.len()
+    // Whether the order list has a byte for each channel of each lane, and the cycle list one for each channel.
+    fn long_enough(&self, order: &[u8], cycle: &[u8]) -> bool
+        ensures { result ≡ long_enough self.now.lanes.lanes (count (net self.now.fabric.now)) (length order.now) (length cycle.now) }
+    {
+        let channels = self.fabric.channel_count() as usize;
+        self.lanes.get() as usize * channels <= order.len() && channels <= cycle.len()
+    }
 }
 
 // The check: whether every pair arrives, in a lane below the count, and no lane has a cycle. A yes writes the channels of lane 0, lane
@@ -44,25 +48,16 @@ pub fn check<R: RouteRule>(
     order: &mut [u8],
     cycle: &mut [u8],
 ) -> Result<Accepted, RuleFault>
-    ensures exact { Checked (Ok (accepted (setup_of fabric.now lanes (R.maps rule.now)))) (λ f. Err f) (setup_of fabric.now lanes (R.maps rule.now)) order.old order.new cycle.old cycle.new result }
-    ensures accepts { YesExactly (Ok (accepted (setup_of fabric.now lanes (R.maps rule.now)))) (setup_of fabric.now lanes (R.maps rule.now)) (length order.old) (length cycle.old) result }
+    ensures exact { let g = setup_of fabric.now lanes (R.maps rule.now) in Checked (accepted g) g order.old order.new cycle.old cycle.new result }
+    ensures accepts { let g = setup_of fabric.now lanes (R.maps rule.now) in YesExactly (accepted g) g (length order.old) (length cycle.old) result }
 {
-    if !few_lanes(lanes) {
-        return Err(RuleFault::Call(CallFault::LaneCount));
-    }
-    if !long_enough(fabric, lanes, order, cycle) {
+    let setup = Setup::of(fabric, lanes, rule)?;
+    if !setup.long_enough(order, cycle) {
         return Err(RuleFault::Call(CallFault::ShortList));
     }
-    if let Some(fault) = pairs_fault(fabric, lanes, rule) {
-        return Err(fault);
-    }
-    if let Some(found) = settle_lanes(fabric, lanes, rule, order, cycle) {
-        return Err(RuleFault::Cyclic(found.lane, found.length));
-    }
-    Ok(Accepted {
-        lanes: lanes as u8,
-        channels: fabric.channel_count() as u8,
-    })
+    setup.judge_pairs()?;
+    setup.settle_lanes(order, cycle)?;
+    Ok(setup.accepted())
 }
 
 // What shows a verdict of the check: after a yes the named lane's part of the order list, after a cycle its part of the cycle list,

@@ -1,47 +1,40 @@
 -- A file, written part after part over a list.
-use Rattle.std.proofs.Common.{◌≡◌, ℕ, ◌+◌, ◌-◌, ◌*◌, ◌<◌, ◌≤◌, List, [], ◌∷◌, ◌++◌, length, get_or, take, drop, set, Some, None, sym, ap, ◌∙◌, arith}
+use Rattle.std.proofs.Common.{◌≡◌, ℕ, ◌+◌, ◌-◌, ◌*◌, ◌<◌, ◌≤◌, List, [], ◌∷◌, ◌++◌, length, get_or, drop, set, Some, None, refl, ap, ◌∙◌, arith}
 use borrow.Rule.Slice.PartMut.{put_mid}
-use Rattle.std.proofs.lemmas.List.{take_at, drop_at, drop-drop, drop_more, set_at, append_assoc, length-append, length-map, length-take-le}
+use Rattle.std.proofs.lemmas.List.{take_at, drop_at, drop-drop, drop_more, set_at, append_assoc, length-append, length-map}
 use Rattle.std.proofs.lemmas.Bool.{le-ltb, lt-ltb}
 use Rattle.fabric.specs.Channels.{starts}
 use Rattle.model.specs.Net.{Channel, Net, count}
 use Rattle.model.specs.Refusals.{refuse, call_layer}
 use Rattle.model.specs.Rules.{Rule}
-use Rattle.planfile.specs.File.{entry_bytes, file_bytes, head_bytes, hop_byte, hops_body, lane_body, link_body, rows}
-use Rattle.planfile.specs.Refused.{tag_of}
+use Rattle.planfile.specs.File.{file_bytes, head_bytes, hop_byte, hops_body, lane_body, link_body, rows}
 use Rattle.planfile.specs.Writes.{write_refusal}
 use Rattle.planfile.proofs.Rows.{length_rows}
 
 -- one more part is written after a front
 front_put : (old new f ys : List ℕ) (a k e : ℕ) → new ≡ f ++ drop a old → length f ≡ a → a + k ≡ e → put_mid a k new ys ≡ (f ++ ys) ++ drop e old
 front_put old new f ys a k e q l n =
-    let t : take a new ≡ f = ap (λ (z : List ℕ). take a z) q ∙ take_at f (drop a old) a l in
-    let d : drop k (drop a new) ≡ drop e old =
-    ap (λ (z : List ℕ). drop k (drop a z)) q ∙ ap (λ (z : List ℕ). drop k z) (drop_at f (drop a old) a l) ∙ drop-drop k a old
-    ∙ ap (λ (z : ℕ). drop z old) n in
-    ap (λ (z : List ℕ). z ++ (ys ++ drop k (drop a new))) t ∙ ap (λ (z : List ℕ). f ++ (ys ++ z)) d ∙ sym (append_assoc f ys (drop e old))
+    let t = take_at f (drop a old) a l in
+    let d = drop_at f (drop a old) a l in
+    let r = drop-drop k a old in
+    let s = append_assoc f ys (drop e old) in
+    cc
 
 -- one more byte
 front_set : (old new f : List ℕ) (y a : ℕ) → new ≡ f ++ drop a old → length f ≡ a → a < length old → set new a y ≡ (f ++ y ∷ []) ++ drop (a + 1) old
 front_set old new f y a q l h =
-    ap (λ (z : List ℕ). set z a y) (q ∙ ap (λ (z : List ℕ). f ++ z) (drop_more old a 0 h))
-    ∙ set_at f (get_or old a 0) (drop (a + 1) old) y a l ∙ sym (append_assoc f (y ∷ []) (drop (a + 1) old))
-
--- the first two parts, the second written first
-front_two : (old h b : List ℕ) (a k e : ℕ) → a ≤ length old → a + k ≡ e → h ++ drop a (put_mid a k old b) ≡ (h ++ b) ++ drop e old
-front_two old h b a k e l n =
-    ap (λ (z : List ℕ). h ++ z)
-    (drop_at (take a old) (b ++ drop k (drop a old)) a (length-take-le a old l)
-    ∙ ap (λ (z : List ℕ). b ++ z) (drop-drop k a old ∙ ap (λ (z : ℕ). drop z old) n))
-    ∙ sym (append_assoc h b (drop e old))
+    let m = drop_more old a 0 h in
+    let t = set_at f (get_or old a 0) (drop (a + 1) old) y a l in
+    let s = append_assoc f (y ∷ []) (drop (a + 1) old) in
+    cc
 
 -- the writes of a file, one after the other
 pub written : (old h b x y : List ℕ) (m ends s : ℕ) → length h ≡ 25 → length b ≡ 1 + ends → length x ≡ s → 26 + ends + s + 1 + s ≤ length old
     → put_mid (26 + ends + s + 1) (26 + ends + s + 1 + s - (26 + ends + s + 1))
-    (set (put_mid (26 + ends) (26 + ends + s - (26 + ends)) (h ++ drop 25 (put_mid 25 (26 + ends - 25) old b)) x) (26 + ends + s) m) y
+    (set (put_mid (26 + ends) (26 + ends + s - (26 + ends)) (put_mid 25 (26 + ends - 25) (h ++ drop 25 old) b) x) (26 + ends + s) m) y
     ≡ (h ++ (b ++ (x ++ (m ∷ y)))) ++ drop (26 + ends + s + 1 + s) old
 written old h b x y m ends s lh lb lx le =
-    let a1 = front_two old h b 25 (26 + ends - 25) (26 + ends) (omega arith) (omega arith) in
+    let a1 = front_put old _ h b 25 (26 + ends - 25) (26 + ends) refl lh (omega arith) in
     let f1 : List ℕ = h ++ b in
     let l1 : length f1 ≡ 26 + ends = omega (arith, length-append h b) in
     let a2 = front_put old _ f1 x (26 + ends) (26 + ends + s - (26 + ends)) (26 + ends + s) a1 l1 (omega arith) in
@@ -65,22 +58,11 @@ length_file net lanes rule =
     let s = length-map net.channels (λ (x : Channel). x.start) in
     omega (arith, a, b, s, length_rows net.switches (hop_byte rule), length_rows net.switches rule.lane)
 
--- the contents, from what the writer has of them
-pub head_is : (tag : List ℕ) (from a cells a' b c : ℕ) → tag ≡ tag_of 0 → from ≡ 25 → a ≡ a' → cells ≡ b → 1 + cells ≡ c
-    → 3 ∷ (entry_bytes tag from a ++ (entry_bytes (tag_of 1) (25 + a) cells ++ entry_bytes (tag_of 2) (25 + a + cells) (1 + cells))) ≡ head_bytes a' b c
-head_is tag from a cells a' b c t f p q r =
-    ap (λ (z : List ℕ). 3 ∷ (entry_bytes z from a ++ (entry_bytes (tag_of 1) (25 + a) cells ++ entry_bytes (tag_of 2) (25 + a + cells) (1 + cells)))) t
-    ∙ ap (λ (z : ℕ). 3 ∷ (entry_bytes (tag_of 0) z a ++ (entry_bytes (tag_of 1) (25 + a) cells ++ entry_bytes (tag_of 2) (25 + a + cells) (1 + cells)))) f
-    ∙ ap (λ (z : ℕ). head_bytes z cells (1 + cells)) p ∙ ap (λ (z : ℕ). head_bytes a' z (1 + cells)) q ∙ ap (λ (z : ℕ). head_bytes a' b z) r
-
 -- the bytes so written are the file's
-pub file_of_parts : (net : Net) (lanes : ℕ) (rule : Rule) (h b x y : List ℕ)
+pub file_of_parts : (net : Net) (lanes : ℕ) (rule : Rule) (h b x y : List ℕ) (m : ℕ)
     → h ≡ head_bytes (length (link_body net)) (length (hops_body net rule)) (length (lane_body net lanes rule))
-    → b ≡ link_body net → x ≡ hops_body net rule → y ≡ rows net.switches rule.lane → h ++ (b ++ (x ++ (lanes ∷ y))) ≡ file_bytes net lanes rule
-file_of_parts net lanes rule h b x y eh eb ex ey =
-    let H : List ℕ = head_bytes (length (link_body net)) (length (hops_body net rule)) (length (lane_body net lanes rule)) in
-    ap (λ (z : List ℕ). z ++ (b ++ (x ++ (lanes ∷ y)))) eh ∙ ap (λ (z : List ℕ). H ++ (z ++ (x ++ (lanes ∷ y)))) eb
-    ∙ ap (λ (z : List ℕ). H ++ (link_body net ++ (z ++ (lanes ∷ y)))) ex ∙ ap (λ (z : List ℕ). H ++ (link_body net ++ (hops_body net rule ++ (lanes ∷ z)))) ey
+    → b ≡ link_body net → x ≡ hops_body net rule → m ≡ lanes → y ≡ rows net.switches rule.lane → h ++ (b ++ (x ++ (m ∷ y))) ≡ file_bytes net lanes rule
+file_of_parts net lanes rule h b x y m eh eb ex em ey = cc
 
 -- the refusals of writing
 pub write_passes : (lanes file list : ℕ) → 1 ≤ lanes → lanes ≤ 8 → file ≤ list → write_refusal lanes file list ≡ None

@@ -1,5 +1,6 @@
 pub mod Entries
 pub mod Faulty
+pub mod Parts
 pub mod Rows
 pub mod Heads
 pub mod Whole

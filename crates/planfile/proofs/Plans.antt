@@ -1,5 +1,5 @@
 -- What decoding answers, from what its parts do.
-use Rattle.std.proofs.Common.{◌≡◌, ℕ, ◌*◌, ◌≤◌, List, length, Some, None, Option, sym, ap, ◌∙◌, subst, arith, MatchOption}
+use Rattle.std.proofs.Common.{◌≡◌, ℕ, ◌*◌, ◌≤◌, List, length, Some, None, Option, sym, ap, subst, arith, MatchOption}
 use Rattle.std.proofs.lemmas.Bool.{le-ltb}
 use Rattle.model.specs.Cabling.{cabling_refusal}
 use Rattle.model.specs.Net.{Net, net_of}
@@ -13,7 +13,7 @@ use Rattle.planfile.specs.Judges.{Faulty}
 use Rattle.planfile.specs.Refused.{PlanFile, Refused, switches_in, ends_in, hops_in, lane_count_in, lanes_in}
 use Rattle.planfile.specs.declared.fault.FileFault.{FileFault}
 use Rattle.planfile.proofs.Faulty.{hops_long, lanes_long}
-use Rattle.planfile.proofs.Whole.{Bytes, rule_in, read_back}
+use Rattle.planfile.proofs.Whole.{Bytes, read_back}
 
 -- a fault of the tests
 pub refuses : (bs : List ℕ) (f : FileFault) → Faulty bs f → Refuses bs f
@@ -29,8 +29,7 @@ starved bs f p e = subst (λ (o : Option Refusal). MatchOption o (PlanFile bs) (
 
 -- nothing refuses what passed the tests
 pub cabling_passes : (bs ends : List ℕ) (n : ℕ) → PlanFile bs → n ≡ switches_in bs → ends ≡ ends_in bs → cabling_refusal n ends ≡ None
-cabling_passes bs ends n p e q =
-    ap (λ (z : ℕ). cabling_refusal z ends) e ∙ ap (λ (z : List ℕ). cabling_refusal (switches_in bs) z) q ∙ p.placed.cabled.sound
+cabling_passes bs ends n p e q = let sound = p.placed.cabled.sound in cc
 
 pub lists_pass : (bs hops lanes : List ℕ) (n : ℕ) → PlanFile bs → n ≡ switches_in bs → hops ≡ hops_in bs → lanes ≡ lanes_in bs → list_refusal n hops lanes ≡ None
 lists_pass bs hops lanes n p e h l =
@@ -44,11 +43,4 @@ pub decoded : (bs : List ℕ) (net : Net) (lanes : ℕ) (rule : Rule) (n : ℕ) 
     → n ≡ switches_in bs → ends ≡ ends_in bs → hops ≡ hops_in bs → rows ≡ lanes_in bs → lanes ≡ lane_count_in bs
     → net ≡ net_of n ends → rule ≡ table_rule net.switches hops rows → bs ≡ file_bytes net lanes rule
 decoded bs net lanes rule n ends hops rows small p en ee eh er el q r =
-    let m : net.switches ≡ switches_in bs = ap (λ (z : Net). z.switches) q ∙ en in
-    let a : net ≡ net_of (switches_in bs) (ends_in bs) = q ∙ ap (λ (z : ℕ). net_of z ends) en ∙ ap (λ (z : List ℕ). net_of (switches_in bs) z) ee in
-    let b : rule ≡ rule_in bs =
-    r ∙ ap (λ (z : ℕ). table_rule z hops rows) m ∙ ap (λ (z : List ℕ). table_rule (switches_in bs) z rows) eh
-    ∙ ap (λ (z : List ℕ). table_rule (switches_in bs) (hops_in bs) z) er in
-    read_back bs small p
-    ∙ sym (ap (λ (z : Net). file_bytes z lanes rule) a ∙ ap (λ (z : ℕ). file_bytes (net_of (switches_in bs) (ends_in bs)) z rule) el
-    ∙ ap (λ (z : Rule). file_bytes (net_of (switches_in bs) (ends_in bs)) (lane_count_in bs) z) b)
+    let back = read_back bs small p in cc

@@ -1,5 +1,5 @@
 -- A written file, part by part.
-use Rattle.std.proofs.Common.{◌≡◌, ℕ, zero, suc, ◌+◌, ◌-◌, ◌*◌, ◌%◌, ◌<◌, ◌≤◌, ltb, List, [], ◌∷◌, ◌++◌, length, get_or, take, drop, IfSome, Some, None, Ok, Err, vec_items, Option, Result, sym, refl, ap, ◌∙◌, subst, arith, MatchOption}
+use Rattle.std.proofs.Common.{◌≡◌, ◌==◌, ℕ, zero, suc, ◌+◌, ◌-◌, ◌*◌, ◌%◌, ◌<◌, ◌≤◌, ltb, List, [], ◌∷◌, ◌++◌, length, get_or, take, drop, IfSome, Some, None, unwrap_or, Ok, Err, vec_items, Option, Result, sym, refl, ap, ◌∙◌, subst, arith, MatchOption}
 use Rattle.std.proofs.lemmas.Nat.{mul-le}
 use Rattle.std.proofs.lemmas.List.{take_at, take_all, drop_at, drop-drop, length-map, get_or-drop}
 use Rattle.std.proofs.lemmas.Bool.{cond_both, cond-false, cond-true, eq-eqb, le-ltb, lt-leb, ltb-true, ne_eqb}
@@ -14,7 +14,7 @@ use Rattle.model.specs.Rules.{Rule, channel_byte, table_rule}
 use Rattle.routing.specs.Tables.{rule_of}
 use Rattle.planfile.specs.Decodes.{Decodes}
 use Rattle.planfile.specs.Faults.{file_refusal}
-use Rattle.planfile.specs.File.{byte_of, file_bytes, hop_byte, hops_body, lane_body, link_body, rows}
+use Rattle.planfile.specs.File.{file_bytes, hop_byte, hops_body, lane_body, link_body, rows}
 use Rattle.planfile.specs.Refused.{PlanFile, Plain, Refused, form, tag, link, cabling, hops, lane, hops_diagonal, lane_diagonal, hops_from, hops_in, ends_in, lane_count_in, lane_from, lanes_in, length_at, tag_at, tag_of}
 use Rattle.planfile.specs.Round.{Back, Same}
 use Rattle.planfile.specs.Writes.{Named}
@@ -160,7 +160,7 @@ unrefused bs r p (hops_diagonal i l h) = h.here (p.hops i h.there)
 unrefused bs r p (lane_diagonal i l a h) = h.here (p.lanes i h.there)
 
 -- a byte tells the channel
-byte_same : (o p : Option ℕ) → IfSome o (λ c. c < 255) → IfSome p (λ c. c < 255) → byte_of o ≡ byte_of p → o ≡ p
+byte_same : (o p : Option ℕ) → IfSome o (λ c. c < 255) → IfSome p (λ c. c < 255) → unwrap_or o 255 ≡ unwrap_or p 255 → o ≡ p
 byte_same None None a b e = refl
 byte_same None (Some y) a b e = absurd (omega (arith, b))
 byte_same (Some x) None a b e = absurd (omega (arith, a))
@@ -176,9 +176,11 @@ table_named k n xs ys u d hu hd ne =
 -- equal tables have equal cells
 cells_same : (n n' : ℕ) (f f' : ℕ → ℕ → ℕ) → n ≡ n' → rows n f ≡ rows n' f' → (u d : ℕ) → u < n → d < n → (u ≡ d → ⊥) → f u d ≡ f' u d
 cells_same n n' f f' en e u d hu hd ne =
-    let p : u * n + d ≡ u * n' + d = ap (λ (z : ℕ). u * z + d) en in
-    sym (cond-false _ _ _ (ne_eqb u d ne)) ∙ sym (rows_at n f u d hu hd) ∙ ap (λ (z : List ℕ). get_or z (u * n + d) 0) e
-    ∙ ap (λ (z : ℕ). get_or (rows n' f') z 0) p ∙ rows_at n' f' u d (omega arith) (omega arith) ∙ cond-false _ _ _ (ne_eqb u d ne)
+    let at = rows_at n f u d hu hd in
+    let at' = rows_at n' f' u d (omega arith) (omega arith) in
+    let here = cond-false (u == d) 255 (f u d) (ne_eqb u d ne) in
+    let here' = cond-false (u == d) 255 (f' u d) (ne_eqb u d ne) in
+    cc
 
 -- two plans of one file are the same
 pub same_file : (f f' : Fabric) (m m' : ℕ) (rule rule' : Rule) → Named (net f).switches rule → Named (net f).switches rule'

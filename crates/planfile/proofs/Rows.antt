@@ -1,5 +1,5 @@
 -- Tables by row.
-use Rattle.std.proofs.Common.{◌≡◌, ℕ, ◌+◌, ◌*◌, ◌/◌, ◌%◌, ◌<◌, Bool, true, cond, List, length, get_or, Some, None, sym, ap, ◌∙◌, inl, inr, arith}
+use Rattle.std.proofs.Common.{◌≡◌, ℕ, ◌+◌, ◌*◌, ◌/◌, ◌%◌, ◌<◌, Bool, true, cond, List, length, get_or, Some, None, unwrap_or, sym, ap, ◌∙◌, inl, inr, arith}
 use Rattle.std.proofs.lemmas.Nat.{div-add-mod', div_below, mod_below, mul-add-lt, div-mul-add, mod-mul-add}
 use Rattle.std.proofs.lemmas.List.FromFn.{fill_by_all, get_or-map-range_with_len, length-map-range_with_len}
 use Rattle.std.proofs.lemmas.List.{get_or_default}
@@ -7,7 +7,7 @@ use Rattle.std.proofs.lemmas.Bool.{cases_eq, cases_lt, lt-ltb, le-ltb, eq-eqb, n
 use Rattle.std.proofs.lemmas.Bool.Decides.{nat_tests}
 use Rattle.model.specs.Net.{is_pair}
 use Rattle.model.specs.Rules.{table_rule, channel_byte}
-use Rattle.planfile.specs.File.{rows, cell, byte_of, hop_byte}
+use Rattle.planfile.specs.File.{rows, cell, hop_byte}
 
 pub length_rows : (n : ℕ) (f : ℕ → ℕ → ℕ) → length (rows n f) ≡ n * n
 length_rows n f = length-map-range_with_len (λ (k : ℕ). cell f (k / n) (k % n)) 0 (n * n)
@@ -35,11 +35,11 @@ rows_back n xs f p l diag at =
     ])
 
 -- the answers of a stored table are its bytes
-byte_back : (x : ℕ) → x < 256 → byte_of (channel_byte x) ≡ x
+byte_back : (x : ℕ) → x < 256 → unwrap_or (channel_byte x) 255 ≡ x
 byte_back x small =
     elim (cases_lt x 255) [
-      | inl s ↦ ap (λ (b : Bool). byte_of (cond b (Some x) None)) (lt-ltb _ _ s)
-      | inr s ↦ let z : 255 ≡ x = omega arith in ap (λ (b : Bool). byte_of (cond b (Some x) None)) (le-ltb _ _ s) ∙ z
+      | inl s ↦ ap (λ (b : Bool). unwrap_or (cond b (Some x) None) 255) (lt-ltb _ _ s)
+      | inr s ↦ let z : 255 ≡ x = omega arith in ap (λ (b : Bool). unwrap_or (cond b (Some x) None) 255) (le-ltb _ _ s) ∙ z
     ]
 
 pub hop_back : (n : ℕ) (xs ys : List ℕ) (u d : ℕ) → length xs ≡ n * n → u < n → d < n → (u ≡ d → ⊥) → get_or xs (u * n + d) 0 < 256
@@ -47,8 +47,8 @@ pub hop_back : (n : ℕ) (xs ys : List ℕ) (u d : ℕ) → length xs ≡ n * n 
 hop_back n xs ys u d l hu hd ne small =
     let p : is_pair n u d ≡ true = grind (arith, nat_tests) in
     let h : u * n + d < length xs = omega (arith, mul-add-lt u n d n hu hd) in
-    ap (λ (b : Bool). byte_of (cond b (channel_byte (get_or xs (u * n + d) 255)) None)) p
-    ∙ ap (λ (x : ℕ). byte_of (channel_byte x)) (get_or_default xs (u * n + d) 255 0 h) ∙ byte_back (get_or xs (u * n + d) 0) small
+    ap (λ (b : Bool). unwrap_or (cond b (channel_byte (get_or xs (u * n + d) 255)) None) 255) p
+    ∙ ap (λ (x : ℕ). unwrap_or (channel_byte x) 255) (get_or_default xs (u * n + d) 255 0 h) ∙ byte_back (get_or xs (u * n + d) 0) small
 
 pub lane_back : (n : ℕ) (xs ys : List ℕ) (u d : ℕ) → length ys ≡ n * n → u < n → d < n → (u ≡ d → ⊥)
     → (table_rule n xs ys).lane u d ≡ get_or ys (u * n + d) 0

@@ -1,9 +1,8 @@
 -- A file that passes every test is the file of what it holds.
-use Rattle.std.proofs.Common.{◌≡◌, ℕ, ◌+◌, ◌-◌, ◌*◌, ◌<◌, List, ◌∷◌, ◌++◌, length, get_or, take, drop, sym, refl, ap, ◌∙◌, arith}
+use Rattle.std.proofs.Common.{◌≡◌, ℕ, ◌+◌, ◌-◌, ◌*◌, ◌<◌, List, ◌∷◌, ◌++◌, length, get_or, take, drop, sym, refl, ◌∙◌, arith}
 use Rattle.std.proofs.lemmas.Nat.{mul-add-lt}
 use Rattle.std.proofs.lemmas.List.{length-drop, length-take-le, drop_more, take_all, get_or-take, get_or-drop}
 use Rattle.fabric.proofs.Cables.{cabled, starts_of}
-use Rattle.fabric.specs.Channels.{starts}
 use Rattle.model.specs.Net.{net_of}
 use Rattle.model.specs.Rules.{Rule, table_rule}
 use Rattle.planfile.specs.File.{entry_bytes, file_of, file_bytes, rows, hop_byte}
@@ -32,13 +31,8 @@ file_back bs link hops lane small p a b c e =
     let s1 : drop 1 bs ≡ take 8 (drop 1 bs) ++ drop 9 bs = cut bs 1 8 9 refl in
     let s2 : drop 9 bs ≡ take 8 (drop 9 bs) ++ drop 17 bs = cut bs 9 8 17 refl in
     let s3 : drop 17 bs ≡ take 8 (drop 17 bs) ++ drop 25 bs = cut bs 17 8 25 refl in
-    let r3 : drop 17 bs ≡ entry_bytes (tag_of 2) (25 + length link + length hops) (length lane) ++ (link ++ (hops ++ lane)) =
-    s3 ∙ ap (λ (z : List ℕ). z ++ drop 25 bs) e2 ∙ ap (λ (z : List ℕ). entry_bytes (tag_of 2) (25 + length link + length hops) (length lane) ++ z) e in
-    let r2 : drop 9 bs ≡ entry_bytes (tag_of 1) (25 + length link) (length hops) ++ drop 17 bs = s2 ∙ ap (λ (z : List ℕ). z ++ drop 17 bs) e1 in
-    let r1 : drop 1 bs ≡ entry_bytes (tag_of 0) 25 (length link) ++ drop 9 bs = s1 ∙ ap (λ (z : List ℕ). z ++ drop 9 bs) e0 in
-    s0 ∙ ap (λ (z : ℕ). z ∷ drop 1 bs) f.edition ∙ ap (λ (z : List ℕ). 3 ∷ z) r1
-    ∙ ap (λ (z : List ℕ). 3 ∷ (entry_bytes (tag_of 0) 25 (length link) ++ z)) r2
-    ∙ ap (λ (z : List ℕ). 3 ∷ (entry_bytes (tag_of 0) 25 (length link) ++ (entry_bytes (tag_of 1) (25 + length link) (length hops) ++ z))) r3
+    let edition = f.edition in
+    cc
 
 part_at : (bs : List ℕ) (from k n : ℕ) → k < n → get_or (take n (drop from bs)) k 0 ≡ get_or bs (from + k) 0
 part_at bs from k n h = get_or-take n (drop from bs) k 0 h ∙ get_or-drop from bs k 0
@@ -77,8 +71,7 @@ bodies_back bs p =
     let s3 : drop (hops_from bs) bs ≡ hops_in bs ++ drop (lane_from bs) bs = cut bs (hops_from bs) (n * n) (lane_from bs) (omega arith) in
     let s2 : drop 26 bs ≡ ends_in bs ++ drop (hops_from bs) bs = cut bs 26 (a - 1) (hops_from bs) (omega arith) in
     let s1 : drop 25 bs ≡ n ∷ drop 26 bs = drop_more bs 25 0 (omega arith) in
-    s1 ∙ ap (λ (z : List ℕ). n ∷ z) s2 ∙ ap (λ (z : List ℕ). n ∷ (ends_in bs ++ z)) s3
-    ∙ ap (λ (z : List ℕ). n ∷ (ends_in bs ++ (hops_in bs ++ z))) (s4 ∙ ap (λ (z : List ℕ). lane_count_in bs ∷ z) last)
+    cc
 
 -- a plan file is the file of what it holds
 pub read_back : (bs : List ℕ) → Bytes bs → PlanFile bs → bs ≡ file_bytes (net_of (switches_in bs) (ends_in bs)) (lane_count_in bs) (rule_in bs)
@@ -92,7 +85,8 @@ read_back bs small p =
     let lh : length (hops_in bs) ≡ length_at bs 1 = hops_long bs pl ∙ sym pl.hops.size in
     let ll : length (lane_count_in bs ∷ lanes_in bs) ≡ length_at bs 2 = omega (arith, lanes_long bs pl, pl.lane.size) in
     let pos : 0 < n = omega (arith, k.enough) in
-    file_back bs (n ∷ ends_in bs) (hops_in bs) (lane_count_in bs ∷ lanes_in bs) small pl (omega arith) lh ll (bodies_back bs pl)
-    ∙ ap (λ (z : List ℕ). file_of (n ∷ z) (hops_in bs) (lane_count_in bs ∷ lanes_in bs)) (sym (starts_of (ends_in bs) k.paired))
-    ∙ ap (λ (z : List ℕ). file_of (n ∷ starts (net_of n (ends_in bs)).channels) z (lane_count_in bs ∷ lanes_in bs)) (hops_rows bs small p pos)
-    ∙ ap (λ (z : List ℕ). file_of (n ∷ starts (net_of n (ends_in bs)).channels) (rows n (hop_byte (rule_in bs))) (lane_count_in bs ∷ z)) (lanes_rows bs p pos)
+    let file = file_back bs (n ∷ ends_in bs) (hops_in bs) (lane_count_in bs ∷ lanes_in bs) small pl (omega arith) lh ll (bodies_back bs pl) in
+    let ends = starts_of (ends_in bs) k.paired in
+    let hops = hops_rows bs small p pos in
+    let lanes = lanes_rows bs p pos in
+    cc

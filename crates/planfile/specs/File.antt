@@ -1,27 +1,22 @@
 -- The bytes of a plan file.
-use Rattle.std.specs.Prelude.{ℕ, ◌+◌, ◌*◌, ◌/◌, ◌%◌, cond, List, [], ◌∷◌, ◌++◌, map, length, Some, None, Option, ◌==◌}
+use Rattle.std.specs.Prelude.{ℕ, ◌+◌, ◌*◌, ◌/◌, ◌%◌, if◌then◌else◌, List, [], ◌∷◌, ◌++◌, map, length, unwrap_or, ◌==◌}
 use Rattle.std.specs.List.{range_with_len}
 use Rattle.fabric.specs.Channels.{starts}
 use Rattle.model.specs.Net.{Net}
 use Rattle.model.specs.Rules.{Rule}
 use Rattle.planfile.specs.Refused.{tag_of}
 
--- The byte of a channel, or of none.
-abbrev pub byte_of : Option ℕ → ℕ
-byte_of None = 255
-byte_of (Some c) = c
-
 -- What stands for two switches: 255 on the diagonal.
 abbrev pub cell : (ℕ → ℕ → ℕ) → ℕ → ℕ → ℕ
-cell f u d = cond (u == d) 255 (f u d)
+cell f u d = if u == d then 255 else f u d
 
 -- n × n bytes by row.
 abbrev pub rows : ℕ → (ℕ → ℕ → ℕ) → List ℕ
 rows n f = map (λ (k : ℕ). cell f (k / n) (k % n)) (range_with_len 0 (n * n))
 
--- The byte that a rule's answer for two switches is.
+-- The channel that a rule answers for two switches; 255 for none.
 abbrev pub hop_byte : Rule → ℕ → ℕ → ℕ
-hop_byte rule u d = byte_of (rule.next u d)
+hop_byte rule u d = unwrap_or (rule.next u d) 255
 
 -- An entry: a tag, then offset and length, high byte first.
 abbrev pub entry_bytes : List ℕ → ℕ → ℕ → List ℕ

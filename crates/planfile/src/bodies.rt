@@ -1,3 +1,8 @@
+use crate::links::Links;
+
+// Stands in both tables on the diagonal, and in HOPS for no channel: the file's format has a byte for each two switches.
+pub const NONE: u8 = 255;
+
 // The lane count of a plan file and its two tables.
 #[derive(Clone, Copy)]
 pub struct Tables<'a> {
@@ -9,9 +14,6 @@ pub struct Tables<'a> {
 // Its three bodies, taken apart.
 #[derive(Clone, Copy)]
 pub struct Bodies<'a> {
-    pub switches: u8,
-    pub ends: &'a [u8],
-    pub hops: &'a [u8],
-    pub lane_count: u8,
-    pub lanes: &'a [u8],
+    pub links: Links<'a>,
+    pub tables: Tables<'a>,
 }

@@ -18,15 +18,9 @@ pub fn contents_of(bytes: &[u8]) -> Result<Contents, FileFault>
     if bytes.len() < 25 || bytes.len() > 4096 || bytes[0] != 3 {
         return Err(FileFault::Form);
     }
-    let Some(link) = Entry::read(&bytes[1..9]) else {
-        return Err(FileFault::Form);
-    };
-    let Some(hops) = Entry::read(&bytes[9..17]) else {
-        return Err(FileFault::Form);
-    };
-    let Some(lane) = Entry::read(&bytes[17..25]) else {
-        return Err(FileFault::Form);
-    };
+    let link = Entry::read(&bytes[1..9]).ok_or(FileFault::Form)?;
+    let hops = Entry::read(&bytes[9..17]).ok_or(FileFault::Form)?;
+    let lane = Entry::read(&bytes[17..25]).ok_or(FileFault::Form)?;
     if bytes.len() != 25 + link.length as usize + hops.length as usize + lane.length as usize {
         return Err(FileFault::Form);
     }

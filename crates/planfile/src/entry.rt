@@ -1,6 +1,12 @@
-ghost use Rattle.std.specs.Prelude.{◌≡◌};
+ghost use Rattle.std.specs.Prelude.{◌≡◌, ◌≢◌, ◌+◌, ◌<◌, ◌≤◌, length, take, drop, OnOk, IfErr};
 ghost use Rattle.planfile.specs.Contents.{Taken};
+ghost use Rattle.planfile.specs.Faults.{part_number};
 ghost use Rattle.planfile.specs.File.{entry_bytes};
+ghost use Rattle.planfile.specs.Refused.{tag_of};
+ghost use Rattle.planfile.specs.declared.fault.FileFault.TheVariants.{Tag};
+
+use crate::fault::FileFault;
+use crate::part::Part;
 
 // An entry of the contents: what a body is, where it begins and how long it is.
 #[derive(Clone, Copy, PartialEq, Eq, Debug)]
@@ -10,35 +16,69 @@ pub struct Entry {
     pub length: u16,
 }
 
-// A tag, then offset and length, high byte first.
-fn lay_out(tag: [u8; 4], offset: u16, length: u16) -> [u8; 8]
-    ensures { result ≡ entry_bytes tag offset length }
-{
-    let [t0, t1, t2, t3] = tag;
-    let [o0, o1] = [(offset / 256) as u8, (offset % 256) as u8];
-    let [l0, l1] = [(length / 256) as u8, (length % 256) as u8];
-    [t0, t1, t2, t3, o0, o1, l0, l1]
-}
-
 impl Entry {
     // Takes the eight bytes of an entry apart; none for any other count of bytes.
     pub fn read(bytes: &[u8]) -> Option<Entry>
         ensures { Taken bytes.now result }
     {
-        match bytes {
-            [t0, t1, t2, t3, o0, o1, l0, l1] => Some(Entry {
-                tag: [*t0, *t1, *t2, *t3],
-                offset: *o0 as u16 * 256 + *o1 as u16,
-                length: *l0 as u16 * 256 + *l1 as u16,
-            }),
-            _ => None,
-        }
+        let &[t0, t1, t2, t3, o0, o1, l0, l1] = bytes else {
+            return None;
+        };
+        Some(Entry {
+            tag: [t0, t1, t2, t3],
+            offset: u16::from_be_bytes([o0, o1]),
+            length: u16::from_be_bytes([l0, l1]),
+        })
     }
 
-    // The eight bytes of an entry.
+    // The eight bytes of an entry: the tag, then offset and length, high byte first.
     pub fn write(self) -> [u8; 8]
         ensures { result ≡ entry_bytes self.tag self.offset self.length }
     {
-        lay_out(self.tag, self.offset, self.length)
+        let [t0, t1, t2, t3] = self.tag;
+        let [o0, o1] = self.offset.to_be_bytes();
+        let [l0, l1] = self.length.to_be_bytes();
+        [t0, t1, t2, t3, o0, o1, l0, l1]
+    }
+
+    // Refusal 16: this entry has another tag than that of the part.
+    pub(crate) fn check_tag(self, part: Part) -> Result<(), FileFault>
+        ensures ok { OnOk result (self.tag ≡ tag_of (part_number part)) }
+        ensures err { IfErr result (λ f. (f ≡ Tag part) × (self.tag ≢ tag_of (part_number part))) }
+    {
+        if self.tag == part.tag() {
+            Ok(())
+        } else {
+            Err(FileFault::Tag(part))
+        }
+    }
+
+    // Where the body ends.
+    pub(crate) fn end(self) -> usize
+        ensures { result ≡ self.offset + self.length }
+    {
+        self.offset as usize + self.length as usize
+    }
+
+    // The body in the bytes of its file.
+    pub(crate) fn body(self, bytes: &[u8]) -> &[u8]
+        requires { self.offset + self.length ≤ length bytes.now }
+        ensures { result.now ≡ take self.length (drop self.offset bytes.now) }
+    {
+        &bytes[self.offset as usize..self.end()]
+    }
+
+    // The entry of a part whose body has this length and follows this one's.
+    pub(crate) fn followed_by(self, part: Part, length: u16) -> Entry
+        requires { self.offset + self.length < 65536 }
+        ensures tag { result.tag ≡ tag_of (part_number part) }
+        ensures offset { result.offset ≡ self.offset + self.length }
+        ensures long { result.length ≡ length }
+    {
+        Entry {
+            tag: part.tag(),
+            offset: self.offset + self.length,
+            length,
+        }
     }
 }

@@ -4,26 +4,30 @@ ghost use Rattle.planfile.specs.Faults.{file_refusal};
 ghost use Rattle.planfile.specs.declared.fault.FileFault.TheVariants.{Fabric, Rule, Memory};
 ghost use Rattle.routing.specs.declared.fault.RuleFault.TheVariants.{Call};
 
+use crate::part::Part;
 use fabric::{CallFault, FabricFault};
 use routing::RuleFault;
 use std::alloc::AllocError;
+use thiserror::Error;
 
-// What is wrong with a plan file. Entries are LINK 0, HOPS 1 and LANE 2, and so are their bodies.
-#[derive(Clone, Copy, PartialEq, Eq, Debug)]
+// What is wrong with a plan file.
+#[derive(Clone, Copy, PartialEq, Eq, Debug, Error)]
 pub enum FileFault {
-    // The file is under 25 or over 4,096 bytes, its byte 0 is not 3, or its length is not 25 plus the three lengths.
+    #[error("the file is under 25 or over 4,096 bytes, byte 0 is not 3, or the length is not 25 plus the three lengths")]
     Form,
-    // This entry has the wrong tag.
-    Tag(u8),
-    // This entry has the wrong offset or length.
-    Place(u8),
-    // A byte on the diagonal is not 255: the body, and the byte in it, counted from 0.
-    Diagonal(u8, u16),
-    // What is wrong with the cabling.
+    #[error("the entry of {0} has the wrong tag")]
+    Tag(Part),
+    #[error("the entry of {0} has the wrong offset or length")]
+    Place(Part),
+    // The part, and the byte in its body, counted from 0.
+    #[error("byte {1} of {0} lies on the diagonal and is not 255")]
+    Diagonal(Part, u16),
+    #[error("{0}")]
     Fabric(FabricFault),
-    // What is wrong with the route rule.
+    #[error("{0}")]
     Rule(RuleFault),
     // There is no memory. That is no refusal, and has no number.
+    #[error("there is no memory")]
     Memory,
 }
 

@@ -1,5 +1,8 @@
+ghost use Rattle.std.specs.Prelude.{◌<◌};
+
 use crate::contents::contents_of;
 use crate::fault::FileFault;
+use crate::part::Part;
 use crate::{decode, recode, write_and_decode};
 use fabric::{CallFault, FabricFault};
 use routing::RuleFault;
@@ -15,10 +18,7 @@ fn fault(contents: &[u8; 25], file: &mut [u8]) -> Option<FileFault> {
     if file.len() >= 25 {
         file[0..25].copy_from_slice(contents);
     }
-    match contents_of(file) {
-        Ok(_) => None,
-        Err(fault) => Some(fault),
-    }
+    contents_of(file).err()
 }
 
 #[test]
@@ -53,15 +53,12 @@ const RING: [u8; 67] =
     *b"\x03LINK\x00\x19\x00\x09HOPS\x00\x22\x00\x10LANE\x00\x32\x00\x11\x04\x00\x01\x01\x02\x02\x03\x03\x00\xff\x00\x00\x07\x01\xff\x02\x01\x03\x03\xff\x04\x06\x05\x05\xff\x01\xff\x00\x00\x00\x00\xff\x00\x00\x00\x00\xff\x00\x00\x00\x00\xff";
 
 // The fault of the ring's file with this byte changed.
-fn changed(heap: Global, at: usize, byte: u8) -> Option<FileFault> {
+fn changed(heap: Global, at: usize, byte: u8) -> Option<FileFault>
+    requires { at < 67 }
+{
     let mut file = RING;
-    if at < 67 {
-        file[at] = byte;
-    }
-    match decode(heap, &file) {
-        Ok(_) => None,
-        Err(fault) => Some(fault),
-    }
+    file[at] = byte;
+    decode(heap, &file).err()
 }
 
 #[test]
@@ -90,19 +87,19 @@ fn written_again(rt: HostRuntime) -> Result<(), Fail> {
 #[test]
 fn short_list(rt: HostRuntime) {
     let mut out = [7; 66];
-    match recode(rt.alloc(), &RING, &mut out) {
-        Ok(_) => assert!(rt; false),
-        Err(fault) => assert_eq!(rt;
-            fault,
-            FileFault::Rule(RuleFault::Call(CallFault::ShortList))
-        ),
-    }
+    assert_eq!(rt;
+        recode(rt.alloc(), &RING, &mut out).err(),
+        Some(FileFault::Rule(RuleFault::Call(CallFault::ShortList)))
+    );
     assert!(rt; out == [7; 66]);
 }
 
 #[test]
 fn refusals(rt: HostRuntime) {
-    assert_eq!(rt; changed(rt.alloc(), 9, b'L'), Some(FileFault::Tag(1)));
+    assert_eq!(rt;
+        changed(rt.alloc(), 9, b'L'),
+        Some(FileFault::Tag(Part::Hops))
+    );
     assert_eq!(rt;
         changed(rt.alloc(), 25, 1),
         Some(FileFault::Fabric(FabricFault::SwitchCount))
@@ -111,35 +108,38 @@ fn refusals(rt: HostRuntime) {
         changed(rt.alloc(), 29, 9),
         Some(FileFault::Fabric(FabricFault::MissingEnd(1)))
     );
-    assert_eq!(rt; changed(rt.alloc(), 14, 35), Some(FileFault::Place(1)));
-    assert_eq!(rt; changed(rt.alloc(), 22, 51), Some(FileFault::Place(2)));
-    assert_eq!(rt; changed(rt.alloc(), 34, 0), Some(FileFault::Diagonal(1, 0)));
+    assert_eq!(rt;
+        changed(rt.alloc(), 14, 35),
+        Some(FileFault::Place(Part::Hops))
+    );
+    assert_eq!(rt;
+        changed(rt.alloc(), 22, 51),
+        Some(FileFault::Place(Part::Lane))
+    );
+    assert_eq!(rt;
+        changed(rt.alloc(), 34, 0),
+        Some(FileFault::Diagonal(Part::Hops, 0))
+    );
     assert_eq!(rt;
         changed(rt.alloc(), 66, 0),
-        Some(FileFault::Diagonal(2, 16))
+        Some(FileFault::Diagonal(Part::Lane, 16))
     );
 }
 
 #[test]
-fn even_length(rt: HostRuntime) -> Result<(), Fail> {
+fn even_length(rt: HostRuntime) {
     let mut file = RING;
     file[8] = 10;
     file[16] = 15;
-    match decode(rt.alloc(), &file) {
-        Ok(_) => {
-            assert!(rt; false);
-            Ok(())
-        },
-        Err(fault) => {
-            assert_eq!(rt; fault, FileFault::Place(0));
-            Ok(())
-        },
-    }
+    assert_eq!(rt;
+        decode(rt.alloc(), &file).err(),
+        Some(FileFault::Place(Part::Link))
+    );
 }
 
 #[test]
 fn numbers(rt: HostRuntime) {
-    assert_eq!(rt; FileFault::Diagonal(2, 16).number(), Some(18));
+    assert_eq!(rt; FileFault::Diagonal(Part::Lane, 16).number(), Some(18));
     assert_eq!(rt; FileFault::Fabric(FabricFault::EndList).number(), Some(2));
     assert_eq!(rt; FileFault::Memory.number(), None);
 }

@@ -1,88 +1,50 @@
-ghost use Rattle.std.specs.Prelude.{◌≡◌, ◌+◌, ◌*◌, ◌<◌, ◌∷◌, ◌++◌, length, IfSome, ◌≢◌};
+ghost use Rattle.std.specs.Prelude.{◌≡◌, ◌+◌, ◌*◌, ◌<◌, length};
 ghost use Rattle.fabric.specs.Of.{net};
-ghost use Rattle.planfile.specs.File.{cell, entry_bytes, hop_byte, rows};
-ghost use Rattle.planfile.specs.Refused.{tag_of};
-ghost use Rattle.planfile.specs.Writes.{Named, Writes};
+ghost use Rattle.planfile.specs.File.{head_bytes};
+ghost use Rattle.planfile.specs.Writes.{Filled, Writes};
 
+use crate::bodies::NONE;
 use crate::entry::Entry;
 use crate::links::write_links;
-use fabric::{CallFault, Fabric};
+use crate::part::Part;
+use fabric::{CallFault, Fabric, LaneCount};
 use routing::RouteRule;
 
-// Stands on both diagonals, and for no channel.
-const NONE: u8 = 255;
-
-// Byte 0 and the contents: the entry of LINK, and those of the two tables that follow it.
-fn head(link: Entry, cells: u16) -> [u8; 25]
-    requires { 25 + link.length + cells < 65535 }
-    ensures { result ≡ 3 ∷ (entry_bytes link.tag link.offset link.length ++ (entry_bytes (tag_of 1) (25 + link.length) cells ++ entry_bytes (tag_of 2) (25 + link.length + cells) (1 + cells))) }
+// Byte 0 and the contents, for bodies of these lengths that follow one another.
+fn head(link: u16, hops: u16, lane: u16) -> [u8; 25]
+    requires { 25 + link + hops < 65536 }
+    ensures { result ≡ head_bytes link hops lane }
 {
-    let hops = Entry {
-        tag: *b"HOPS",
-        offset: 25 + link.length,
-        length: cells,
+    let link = Entry {
+        tag: Part::Link.tag(),
+        offset: 25,
+        length: link,
     };
-    let lane = Entry {
-        tag: *b"LANE",
-        offset: 25 + link.length + cells,
-        length: 1 + cells,
-    };
-    let [a0, a1, a2, a3, a4, a5, a6, a7] = link.write();
-    let [b0, b1, b2, b3, b4, b5, b6, b7] = hops.write();
-    let [c0, c1, c2, c3, c4, c5, c6, c7] = lane.write();
-    [
-        3, a0, a1, a2, a3, a4, a5, a6, a7, b0, b1, b2, b3, b4, b5, b6, b7, c0, c1, c2, c3, c4, c5,
-        c6, c7,
-    ]
+    let hops = link.followed_by(Part::Hops, hops);
+    let lane = hops.followed_by(Part::Lane, lane);
+    let mut head = [0; 25];
+    head[0] = 3;
+    head[1..9].copy_from_slice(&link.write());
+    head[9..17].copy_from_slice(&hops.write());
+    head[17..25].copy_from_slice(&lane.write());
+    head
 }
 
-// The byte of HOPS for a switch and a destination.
-fn hop_byte<R: RouteRule>(rule: &R, switch: u8, destination: u8) -> u8
-    ensures is { result ≡ cell (hop_byte (R.maps rule.now)) switch destination }
-    ensures named { (switch ≢ destination) → IfSome ((R.maps rule.now).next switch destination) (λ c. c < 255) }
-{
-    if switch == destination {
-        return NONE;
-    }
-    match rule.channel(switch, destination) {
-        Some(channel) => channel,
-        None => NONE,
-    }
-}
-
-// The byte of LANE for a source and a destination.
-fn lane_byte<R: RouteRule>(rule: &R, source: u8, destination: u8) -> u8
-    ensures { result ≡ cell (R.maps rule.now).lane source destination }
-{
-    if source == destination {
-        NONE
-    } else {
-        rule.lane(source, destination)
-    }
-}
-
-// The channels by row of the switch.
-fn write_hops<R: RouteRule>(rule: &R, switches: u8, out: &mut [u8])
+// A table by row: 255 on the diagonal, and elsewhere the byte of its two switches.
+fn write_rows<F: Fn(u8, u8) -> u8>(switches: u8, out: &mut [u8], byte_of: F)
     requires size { length out.old ≡ switches * switches }
     requires some { 0 < switches }
-    ensures is { out.new ≡ rows switches (hop_byte (R.maps rule.now)) }
-    ensures named { Named switches (R.maps rule.now) }
+    requires callable { F.IsAlwaysCallable byte_of }
+    ensures { Filled switches (F.post byte_of) out.new }
 {
     let width = switches as usize;
-    for k in 0..out.len() {
-        out[k] = hop_byte(rule, (k / width) as u8, (k % width) as u8);
-    }
-}
-
-// The lanes by row of the source.
-fn write_lanes<R: RouteRule>(rule: &R, switches: u8, out: &mut [u8])
-    requires size { length out.old ≡ switches * switches }
-    requires some { 0 < switches }
-    ensures { out.new ≡ rows switches (R.maps rule.now).lane }
-{
-    let width = switches as usize;
-    for k in 0..out.len() {
-        out[k] = lane_byte(rule, (k / width) as u8, (k % width) as u8);
+    for (k, byte) in out.iter_mut().enumerate() {
+        let (row, column) = ((k / width) as u8, (k % width) as u8);
+        *byte = if row == column {
+            NONE
+        } else {
+            byte_of(row, column)
+        };
     }
 }
 
@@ -95,21 +57,22 @@ pub fn write<R: RouteRule>(
 ) -> Result<usize, CallFault>
     ensures { Writes (net fabric.now) lanes (R.maps rule.now) out.old out.new result }
 {
-    if lanes < 1 || lanes > 8 {
-        return Err(CallFault::LaneCount);
-    }
+    let lanes = LaneCount::try_from(lanes)?;
     let switches = fabric.switch_count() as u8;
-    let cells = switches as usize * switches as usize;
-    let hops_at = 26 + fabric.channel_count() as usize;
-    let lane_at = hops_at + cells;
-    let end = lane_at + 1 + cells;
+    let ends = fabric.channel_count() as u16;
+    let cells = switches as u16 * switches as u16;
+    let hops_at = 26 + ends as usize;
+    let lane_at = hops_at + cells as usize;
+    let end = lane_at + 1 + cells as usize;
     if out.len() < end {
         return Err(CallFault::ShortList);
     }
-    let link = write_links(fabric, &mut out[25..hops_at]);
-    out[0..25].copy_from_slice(&head(link, cells as u16));
-    write_hops(rule, switches, &mut out[hops_at..lane_at]);
-    out[lane_at] = lanes as u8;
-    write_lanes(rule, switches, &mut out[lane_at + 1..end]);
+    let hop = |switch, destination| rule.channel(switch, destination).unwrap_or(NONE);
+    let lane = |source, destination| rule.lane(source, destination);
+    out[0..25].copy_from_slice(&head(1 + ends, cells, 1 + cells));
+    write_links(fabric, &mut out[25..hops_at]);
+    write_rows(switches, &mut out[hops_at..lane_at], hop);
+    out[lane_at] = lanes.get() as u8;
+    write_rows(switches, &mut out[lane_at + 1..end], lane);
     Ok(end)
 }

@@ -1,57 +1,45 @@
 -- The channels that lead nearer, gathered one after the other.
-use Rattle.std.proofs.Common.{◌≡◌, ℕ, ◌+◌, ◌-◌, ◌<◌, ◌≤◌, Bool, true, false, cond, ◌&&◌, eqb, List, [], ◌∷◌, ◌++◌, length, take, set, Option, sym, ap, ◌∙◌, append_assoc, arith}
-use Rattle.std.proofs.lemmas.List.{take_more_set, append-nil}
-use Rattle.std.proofs.lemmas.Bool.{le-ltb, lt-ltb, eq-eqb}
-use Rattle.model.specs.Lists.{up_from, keep}
-use Rattle.model.specs.Net.{Net, count, start_of, finish_of}
-use Rattle.model.specs.Planner.{hops, one_more, nearer}
+use Rattle.std.proofs.Common.{◌≡◌, ℕ, ◌+◌, ◌≤◌, Bool, true, false, cond, List, [], ◌∷◌, ◌++◌, length, sym, refl, ap, ◌∙◌, arith}
+use Rattle.std.specs.List.{filter, range_with_len}
+use Rattle.std.proofs.lemmas.List.{map-id, append-nil, length_push}
+use Rattle.std.proofs.lemmas.List.FromFn.{filter_of_map_range_with_len_more}
+use Rattle.model.specs.Lists.{keep, below}
+use Rattle.model.specs.Net.{Net, count}
+use Rattle.model.specs.Planner.{nearer}
 use Rattle.planner.specs.Rows.{is_nearer}
-use Rattle.planner.proofs.Squares.{up_from_more, up_from_none}
+use Rattle.planner.proofs.Squares.{up_from_range}
+
+keep_filter : (f : ℕ → Bool) (xs : List ℕ) → keep f xs ≡ filter f xs
+keep_filter f [] = refl
+keep_filter f (x ∷ xs) = ap (λ zs. cond (f x) (x ∷ zs) zs) (keep_filter f xs)
+
+filter_more : (p : ℕ → Bool) (i : ℕ) → filter p (range_with_len 0 (i + 1)) ≡ filter p (range_with_len 0 i) ++ cond (p i) (i ∷ []) []
+filter_more p i =
+    ap (filter p) (sym (map-id (range_with_len 0 (i + 1))))
+    ∙ filter_of_map_range_with_len_more p (λ k. k) 0 i i (omega arith)
+    ∙ ap (λ zs. filter p zs ++ cond (p i) (i ∷ []) []) (map-id (range_with_len 0 i))
 
 module _ (net : Net) (u d : ℕ) where
-  abbrev by : ℕ → Bool → Bool
-  by c b = elim b [ true ↦ one_more (hops net (finish_of net c) d) (hops net u d) | false ↦ false ]
+  -- The list has the candidates below i.
+  pub record Gathered (i : ℕ) (xs : List ℕ) : Type 0 where
+    pub so_far : xs ≡ filter (is_nearer net u d) (range_with_len 0 i)
+    pub few : length xs ≤ i
 
-  pub nearer_missing : (c : ℕ) → count net ≤ c → false ≡ is_nearer net u d c
-  nearer_missing c h = sym (ap (by c) (ap (λ (b : Bool). b && eqb (start_of net c) u) (le-ltb c (count net) h)))
+  on : (i : ℕ) (xs : List ℕ) (b : Bool) → b ≡ is_nearer net u d i → Gathered i xs → xs ++ cond b (i ∷ []) [] ≡ filter (is_nearer net u d) (range_with_len 0 (i + 1))
+  on i xs b e G =
+      ap (λ zs. zs ++ cond b (i ∷ []) []) G.so_far
+      ∙ ap (λ (t : Bool). filter (is_nearer net u d) (range_with_len 0 i) ++ cond t (i ∷ []) []) e
+      ∙ sym (filter_more (is_nearer net u d) i)
 
-  pub nearer_is : (c : ℕ) (near far : Option ℕ) → c < count net → start_of net c ≡ u → near ≡ hops net (finish_of net c) d → far ≡ hops net u d
-      → one_more near far ≡ is_nearer net u d c
-  nearer_is c near far h e p q =
-      ap (λ (o : Option ℕ). one_more o far) p
-      ∙ ap (λ (o : Option ℕ). one_more (hops net (finish_of net c) d) o) q
-      ∙ sym (ap (by c) (ap (λ (b : Bool). b && eqb (start_of net c) u) (lt-ltb c (count net) h) ∙ eq-eqb (start_of net c) u e))
+  pub gathered_yes : (i : ℕ) (xs ys : List ℕ) → ys ≡ xs ++ i ∷ [] → true ≡ is_nearer net u d i → Gathered i xs → Gathered (i + 1) ys
+  gathered_yes i xs ys p e G =
+      let few = G.few in record { so_far = p ∙ on i xs true e G; few = omega (arith, ap length p, length_push xs i) }
 
-  -- The first k of the list are the candidates below i.
-  abbrev pub Gathered : ℕ → ℕ → List ℕ → Type 0
-  Gathered k i xs = take k xs ++ keep (is_nearer net u d) (up_from (count net - i) i) ≡ nearer net u d
+  pub gathered_no : (i : ℕ) (xs ys : List ℕ) → ys ≡ xs → false ≡ is_nearer net u d i → Gathered i xs → Gathered (i + 1) ys
+  gathered_no i xs ys p e G =
+      let few = G.few in record { so_far = p ∙ sym (append-nil xs) ∙ on i xs false e G; few = omega (arith, ap length p) }
 
-  pub gathered_none : (xs : List ℕ) → Gathered 0 0 xs
-  gathered_none xs = ap (λ (m : ℕ). keep (is_nearer net u d) (up_from m 0)) (whole (count net))
-    where
-      whole : (m : ℕ) → m - 0 ≡ m
-      whole m = omega arith
-
-  on : (i : ℕ) → i < count net → (b : Bool) → is_nearer net u d i ≡ b
-      → keep (is_nearer net u d) (up_from (count net - i) i)
-      ≡ cond b (i ∷ keep (is_nearer net u d) (up_from (count net - (i + 1)) (i + 1))) (keep (is_nearer net u d) (up_from (count net - (i + 1)) (i + 1)))
-  on i h b e =
-      let rest = keep (is_nearer net u d) (up_from (count net - (i + 1)) (i + 1)) in
-      ap (keep (is_nearer net u d)) (up_from_more (count net - i) (count net - (i + 1)) i (omega arith))
-      ∙ ap (λ (t : Bool). cond t (i ∷ rest) rest) e
-
-  pub gathered_yes : (k i : ℕ) (xs : List ℕ) → i < count net → k < length xs → true ≡ is_nearer net u d i → Gathered k i xs
-      → Gathered (k + 1) (i + 1) (set xs k i)
-  gathered_yes k i xs h l e G =
-      let rest = keep (is_nearer net u d) (up_from (count net - (i + 1)) (i + 1)) in
-      ap (λ z. z ++ rest) (take_more_set xs k i l)
-      ∙ append_assoc (take k xs) (i ∷ []) rest
-      ∙ ap (λ z. take k xs ++ z) (sym (on i h true (sym e)))
-      ∙ G
-
-  pub gathered_no : (k i : ℕ) (xs : List ℕ) → i < count net → false ≡ is_nearer net u d i → Gathered k i xs → Gathered k (i + 1) xs
-  gathered_no k i xs h e G = ap (λ z. take k xs ++ z) (sym (on i h false (sym e))) ∙ G
-
-  pub gathered_all : (k i : ℕ) (xs : List ℕ) → count net ≤ i → Gathered k i xs → take k xs ≡ nearer net u d
-  gathered_all k i xs h G =
-      sym (append-nil (take k xs)) ∙ ap (λ z. take k xs ++ keep (is_nearer net u d) z) (sym (up_from_none (count net - i) i (omega arith))) ∙ G
+  pub gathered_all : (i : ℕ) (xs : List ℕ) → i ≡ count net → Gathered i xs → xs ≡ nearer net u d
+  gathered_all i xs e G =
+      G.so_far ∙ ap (λ (k : ℕ). filter (is_nearer net u d) (range_with_len 0 k)) e
+      ∙ sym (keep_filter (is_nearer net u d) (below (count net)) ∙ ap (filter (is_nearer net u d)) (up_from_range (count net) 0))

@@ -2,7 +2,7 @@
 use Rattle.std.proofs.Common.{◌≡◌, ℕ, zero, suc, ◌<◌, Bool, true, ◌&&◌, ◌||◌, eqb, ◌⊎◌, sym, subst, inl, inr}
 use Rattle.std.proofs.lemmas.Bool.{eqb-true, and_parts, or_cases}
 use Rattle.model.specs.Walks.{Walk}
-use Rattle.planner.specs.Cells.{Acyclic, Reach, only}
+use Rattle.planner.specs.Cycles.{Acyclic, Reach, only}
 
 -- Among n nodes every edge of E is one of F.
 abbrev pub Within : (ℕ → ℕ → Bool) → (ℕ → ℕ → Bool) → ℕ → Type 0

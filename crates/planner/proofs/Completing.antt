@@ -8,7 +8,7 @@ use Rattle.model.specs.Walks.{Walk}
 use Rattle.model.proofs.Members.{is_in_below, without_in}
 use Rattle.model.proofs.Ordering.{Takes, done, next, free_before, order_takes, Inside}
 use Rattle.model.proofs.Cycles.{stuck_closed}
-use Rattle.planner.specs.Cells.{Acyclic}
+use Rattle.planner.specs.Cycles.{Acyclic}
 
 -- Where a channel stands in an order.
 abbrev rank : ℕ → List ℕ → ℕ

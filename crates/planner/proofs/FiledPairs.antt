@@ -1,24 +1,21 @@
 -- Pairs are filed one after the other, as the model files them.
-use Rattle.std.proofs.Common.{◌≡◌, ℕ, zero, suc, ◌+◌, ◌*◌, ◌/◌, ◌%◌, ◌<◌, ◌≤◌, Bool, true, false, cond, not, ◌&&◌, ◌||◌, eqb, ltb, List, [], ◌∷◌, ◌++◌, length, get_or, take, set, replicate, Some, None, Option, sym, refl, ap, ◌∙◌, subst, inl, inr, arith, length-set}
-use Rattle.std.proofs.lemmas.Nat.{div-add-mod'}
-use Rattle.std.proofs.lemmas.List.{get_or_past, get_or-replicate, length-replicate, get_or-set_same, get_or-set_other, take-replicate}
-use Rattle.std.proofs.lemmas.Bool.{cases_eq, cases_lt, eq-eqb, ne_eqb, and_right, false≢true}
+use Rattle.std.proofs.Common.{◌≡◌, ℕ, zero, suc, ◌+◌, ◌*◌, ◌<◌, Bool, true, false, ◌&&◌, ◌||◌, eqb, List, [], ◌∷◌, ◌++◌, length, get_or, set, replicate, Some, None, Option, sym, refl, ap, ◌∙◌, subst, inl, inr, arith, length-set}
+use Rattle.std.proofs.lemmas.List.{get_or-replicate, length-replicate, get_or-set_same, get_or-set_other}
+use Rattle.std.proofs.lemmas.Bool.{cases_eq, false≢true}
 use Rattle.model.specs.Lists.{any_of}
 use Rattle.model.specs.Net.{Net, count}
 use Rattle.model.specs.Rules.{Rule}
-use Rattle.model.specs.Routes.{Edge, Pair, pairs_of, route, steps, has}
+use Rattle.model.specs.Routes.{Edge, Pair, route, steps, has}
 use Rattle.model.specs.Order.{completes}
 use Rattle.model.specs.Refusals.{refuse, topology_layer}
 use Rattle.model.specs.Planner.{Planned, tables, refused, fits_at, file_from}
 use Rattle.model.proofs.Members.{any_cases}
 use Rattle.model.proofs.Ordering.{Inside}
 use Rattle.model.proofs.Walking.{walk_exists}
-use Rattle.planner.specs.declared.lane.LaneDraft.{LaneDraft}
-use Rattle.planner.specs.Cells.{edge_at, with, Acyclic}
-use Rattle.planner.specs.Boards.{cells_of, Held, PlacedIn, Placed}
-use Rattle.planner.proofs.Squares.{pairs_from, pairs_all, pairs_on, pairs_none}
+use Rattle.routing.specs.Dependencies.{leads, Adds}
+use Rattle.routing.specs.declared.dependencies.Dependencies.{Dependencies}
+use Rattle.planner.specs.Boards.{Sound, with, Refuses, PlacedIn, Placed}
 use Rattle.planner.proofs.Closing.{acyclic_less}
-use Rattle.planner.proofs.Placing.{at_all}
 use Rattle.planner.proofs.Completing.{completes_yes, completes_no, steps_inside}
 
 has_append : (f : Edge → Bool) (xs ys : List Edge) → any_of f (xs ++ ys) ≡ (any_of f ys || any_of f xs)
@@ -53,174 +50,150 @@ fits_none n new (es ∷ ess) i all =
     ap (λ (b : Bool). elim b as (λ _. Option ℕ) [ true ↦ Some i | false ↦ fits_at n new (suc i) ess ]) (all 0 (omega arith))
     ∙ fits_none n new ess (suc i) (λ j hj. all (suc j) (omega arith))
 
-take-set : (m i v : ℕ) (xs : List ℕ) → take m (set xs i v) ≡ set (take m xs) i v
-take-set zero i v xs = refl
-take-set (suc m) i v [] = refl
-take-set (suc m) zero v (x ∷ xs) = refl
-take-set (suc m) (suc i) v (x ∷ xs) = ap (λ z. x ∷ z) (take-set m i v xs)
+-- A lane holds these dependencies.
+pub record Keeps (n : ℕ) (x : Dependencies) (es : List Edge) : Type 0 where
+  pub sound : Sound n x
+  pub same : (b c : ℕ) → leads x b c ≡ has es b c
+  pub inside : Inside n es
 
-blank : (b c : ℕ) → edge_at (replicate 16384 false) b c ≡ false
-blank b c = and_right (ltb b 128 && ltb c 128) (get_or (replicate 16384 false) (b * 128 + c) false) (bare (b * 128 + c) 16384)
-  where
-    bare : (k n : ℕ) → get_or (replicate n false) k false ≡ false
-    bare k n =
-        elim (cases_lt k n) [
-          | inl h ↦ get_or-replicate n k false false h
-          | inr h ↦ get_or_past (replicate n false) k false (omega (arith, length-replicate n false))
-        ]
+keeps_none : (n : ℕ) (x : Dependencies) → x.channels ≡ n → ((b c : ℕ) → leads x b c ≡ false) → Keeps n x []
+keeps_none n x size none =
+    record { sound = record { size = size; free = λ a k ha w. false≢true (sym (none w.0 a) ∙ w.3) }; same = none; inside = λ b c w. absurd (false≢true w) }
 
-module _ (net : Net) (rule : Rule) (lanes : ℕ) (table : List ℕ) (n : ℕ) where
-  -- The board holds the dependencies so far.
-  pub record Kept (board : List LaneDraft) (ess : List (List Edge)) : Type 0 where
-    pub long : length ess ≡ lanes
-    pub held : Held (count net) lanes board
-    pub each : (l : ℕ) → l < lanes → (b c : ℕ) → edge_at (cells_of board l) b c ≡ has (get_or ess l []) b c
-    pub inside : (l : ℕ) → l < lanes → Inside (count net) (get_or ess l [])
+module _ (n : ℕ) (new : List Edge) (inside : Inside n new) (x : Dependencies) (es : List Edge) (K : Keeps n x es) where
+  both : (b c : ℕ) → has (new ++ es) b c ≡ with x (has new) b c
+  both b c = has_append (λ y. eqb y.tail b && eqb y.head c) new es ∙ ap (λ (z : Bool). z || has new b c) (sym (K.same b c))
 
-  -- The pairs of the cells from i on are still to be filed.
-  pub record Filing (i : ℕ) (board : List LaneDraft) (done : List ℕ) : Type 0 where
+  both_inside : Inside n (new ++ es)
+  both_inside b c w = elim (any_cases (λ y. eqb y.tail b && eqb y.head c) new es w) [ inl v ↦ inside b c v | inr v ↦ K.inside b c v ]
+
+  refuses : Refuses n (has new) x → completes n (new ++ es) ≡ false
+  refuses C =
+      completes_no n (new ++ es) (λ A. C.closes (acyclic_less (with x (has new)) (has (new ++ es)) n (λ b c _ _ w. both b c ∙ w) A))
+
+  module _ (y : Dependencies) (adds : Adds (has new) x y) (s : Sound n y) where
+    accepts : completes n (new ++ es) ≡ true
+    accepts =
+        completes_yes n (new ++ es) both_inside
+        (acyclic_less (has (new ++ es)) (leads y) n (λ b c _ _ w. adds b c ∙ sym (both b c) ∙ w) s.free)
+
+    keeps_more : Keeps n y (new ++ es)
+    keeps_more = record { sound = s; same = λ b c. adds b c ∙ sym (both b c); inside = both_inside }
+
+some_lane : (board : List Dependencies) (j : ℕ) → j < length board → Dependencies
+some_lane [] j h = absurd (omega arith)
+some_lane (x ∷ xs) j h = x
+
+-- The board holds the dependencies so far.
+pub record Kept (n : ℕ) (board : List Dependencies) (ess : List (List Edge)) : Type 0 where
+  pub long : length ess ≡ length board
+  pub each : (l : ℕ) (d : Dependencies) → l < length board → Keeps n (get_or board l d) (get_or ess l [])
+
+module _ (net : Net) (rule : Rule) (table : List ℕ) where
+  -- A board and a lane table after part of the pairs, of which the others are still to be filed, as all are from this board and this table.
+  pub record Filing (first : Planned) (board : List Dependencies) (done : List ℕ) (rest : List Pair) : Type 0 where
     pub ess : List (List Edge)
-    pub kept : Kept board ess
-    pub left : file_from net rule table (pairs_of n) (replicate lanes []) (replicate (n * n) 255) ≡ file_from net rule table (pairs_from n i) ess (take (n * n) done)
+    pub kept : Kept (count net) board ess
+    pub left : first ≡ file_from net rule table rest ess done
 
-  pub filing_none : (x : LaneDraft) → lanes ≤ 8 → n * n ≤ 1024 → x.channels ≡ count net → x.cells ≡ replicate 16384 false
-      → Filing 0 (replicate 8 x) (replicate 1024 255)
-  filing_none x few small size bare =
+  pub filing_none : (first : Planned) (x : Dependencies) (lanes : ℕ) (board : List Dependencies) (done : List ℕ) (rest : List Pair) → x.channels ≡ count net
+      → ((b c : ℕ) → leads x b c ≡ false) → board ≡ replicate lanes x → first ≡ file_from net rule table rest (replicate lanes []) done
+      → Filing first board done rest
+  filing_none first x lanes board done rest size none e first_is =
       record {
         ess = replicate lanes [];
         kept =
             record {
-              long = length-replicate lanes [];
-              held = λ l h.
-                  let a = at_all 8 x l (omega arith) in (
-                    a.1 ∙ size,
-                    λ b k hb w.
-                        false≢true
-                        (sym (blank w.0 b) ∙ ap (λ (m : List Bool). edge_at m w.0 b) (sym (a.0 ∙ bare)) ∙ w.3),
-                  );
-              each = λ l h b c.
-                  ap (λ (m : List Bool). edge_at m b c) ((at_all 8 x l (omega arith)).0 ∙ bare) ∙ blank b c
-                  ∙ sym (ap (λ es. has es b c) (get_or-replicate lanes l [] [] h));
-              inside = λ l h b c w. absurd (false≢true (ap (λ es. has es b c) (sym (get_or-replicate lanes l [] [] h)) ∙ w));
+              long = length-replicate lanes [] ∙ sym (length-replicate lanes x) ∙ ap length (sym e);
+              each = λ l d h.
+                  let inside : l < lanes = omega (arith, ap length e, length-replicate lanes x) in
+                  subst (λ z. Keeps (count net) z (get_or (replicate lanes []) l [])) (sym (ap (λ bs. get_or bs l d) e ∙ get_or-replicate lanes l x d inside))
+                  (subst (Keeps (count net) x) (sym (get_or-replicate lanes l [] [] inside)) (keeps_none (count net) x size none));
             };
-        left =
-            ap (λ ps. file_from net rule table ps (replicate lanes []) (replicate (n * n) 255)) (pairs_all n)
-            ∙ ap (λ xs. file_from net rule table (pairs_from n 0) (replicate lanes []) xs) (sym (take-replicate (n * n) 1024 255 small));
+        left = first_is;
       }
 
-  -- Equal switches are no pair.
-  pub filing_skip : (i : ℕ) (board : List LaneDraft) (done : List ℕ) → i < n * n → i / n ≡ i % n → Filing i board done → Filing (i + 1) board done
-  filing_skip i board done h q F =
-      record {
-        ess = F.ess;
-        kept = F.kept;
-        left =
-            F.left
-            ∙ ap (λ ps. file_from net rule table ps F.ess (take (n * n) done))
-            (pairs_on n i h ∙ ap (λ (b : Bool). cond (not b) (record { source = i / n; destination = i % n } ∷ []) [] ++ pairs_from n (i + 1)) (eq-eqb (i / n) (i % n) q));
-      }
-
-  module _ (s d : ℕ) where
+  module _ (s d : ℕ) (board : List Dependencies) (ess : List (List Edge)) (K : Kept (count net) board ess) where
     abbrev new : List Edge
     new = steps (route net rule s d)
-
-    abbrev onward : List Pair → List (List Edge) → List ℕ → Option ℕ → Planned
-    onward ps ess xs m =
-        elim m [
-          | None ↦ refused (refuse topology_layer 10 (s ∷ d ∷ []))
-          | Some l ↦ file_from net rule table ps (set ess l (new ++ get_or ess l [])) (set xs (s * net.switches + d) l)
-        ]
 
     new_inside : Inside (count net) new
     new_inside = steps_inside (count net) (route net rule s d) (walk_exists net rule _ s d)
 
-    module _ (board : List LaneDraft) (ess : List (List Edge)) (K : Kept board ess) where
-      both : (l : ℕ) → l < lanes → (b c : ℕ) → has (new ++ get_or ess l []) b c ≡ with (cells_of board l) (has new) b c
-      both l h b c = has_append (λ x. eqb x.tail b && eqb x.head c) new (get_or ess l []) ∙ ap (λ (z : Bool). z || has new b c) (sym (K.each l h b c))
+    refused_at : (j : ℕ) (x : Dependencies) → j < length board → Refuses (count net) (has new) (get_or board j x)
+        → completes (count net) (new ++ get_or ess j []) ≡ false
+    refused_at j x h C = refuses (count net) new new_inside (get_or board j x) (get_or ess j []) (K.each j x h) C
 
-      both_inside : (l : ℕ) → l < lanes → Inside (count net) (new ++ get_or ess l [])
-      both_inside l h b c w =
-          elim (any_cases (λ x. eqb x.tail b && eqb x.head c) new (get_or ess l []) w) [ inl v ↦ new_inside b c v | inr v ↦ K.inside l h b c v ]
+    fits_nowhere : (is : List Dependencies) → Placed (count net) (has new) board is None → fits_at (count net) new 0 ess ≡ None
+    fits_nowhere is P =
+        fits_none (count net) new ess 0
+        (λ j h. let g = K.long in let b : j < length board = omega arith in refused_at j (some_lane board j b) b (P j (some_lane board j b) b))
 
-      refuses : (l : ℕ) → l < lanes → (Acyclic (with (cells_of board l) (has new)) (count net) → ⊥) → completes (count net) (new ++ get_or ess l []) ≡ false
-      refuses l h C =
-          completes_no (count net) (new ++ get_or ess l [])
-          (λ A. C (acyclic_less (with (cells_of board l) (has new)) (has (new ++ get_or ess l [])) (count net) (λ b c _ _ w. both l h b c ∙ w) A))
+    module _ (is : List Dependencies) (l : ℕ) (P : PlacedIn (count net) (has new) board is l) where
+      abbrev was : Dependencies
+      was = get_or board l P.lane
 
-      accepts : (l : ℕ) → l < lanes → Acyclic (with (cells_of board l) (has new)) (count net) → completes (count net) (new ++ get_or ess l []) ≡ true
-      accepts l h A =
-          completes_yes (count net) (new ++ get_or ess l []) (both_inside l h)
-          (acyclic_less (has (new ++ get_or ess l [])) (with (cells_of board l) (has new)) (count net) (λ b c _ _ w. sym (both l h b c) ∙ w) A)
+      kept_was : Keeps (count net) was (get_or ess l [])
+      kept_was = K.each l P.lane P.below
 
-      fits_nowhere : (is : List LaneDraft) → Placed (count net) (has new) 0 lanes board is None → fits_at (count net) new 0 ess ≡ None
-      fits_nowhere is P = fits_none (count net) new ess 0 (λ j h. let g = K.long in refuses j (omega arith) (P j (omega arith) (omega arith)))
-
-      fits_here : (is : List LaneDraft) (l : ℕ) → PlacedIn (count net) (has new) 0 lanes board is l → fits_at (count net) new 0 ess ≡ Some l
-      fits_here is l P =
+      fits_here : fits_at (count net) new 0 ess ≡ Some l
+      fits_here =
           let g = K.long in
           let h = P.below in
           let z : 0 + l ≡ l = omega arith in
-          fits_some (count net) new ess 0 l (omega arith) (λ j hj. refuses j (omega arith) (P.lower j (omega arith) hj))
-          (accepts l h (acyclic_less (with (cells_of board l) (has new)) (edge_at (cells_of is l)) (count net) (λ b c _ _ w. P.adds b c ∙ w) (P.held l h).1))
+          fits_some (count net) new ess 0 l (omega arith)
+          (λ j hj. refused_at j P.lane (omega arith) (P.lower j P.lane (omega arith) hj))
+          (accepts (count net) new new_inside was (get_or ess l []) kept_was P.lane (P.adds P.lane) P.sound)
           ∙ ap Some z
 
-      kept_more : (is : List LaneDraft) (l : ℕ) → PlacedIn (count net) (has new) 0 lanes board is l → Kept is (set ess l (new ++ get_or ess l []))
-      kept_more is l P =
+      kept_more : Kept (count net) is (set ess l (new ++ get_or ess l []))
+      kept_more =
           let g = K.long in
           let h = P.below in
           let more = new ++ get_or ess l [] in
-          let here : get_or (set ess l more) l [] ≡ more = get_or-set_same ess l more [] (omega arith) in
           record {
-            long = length-set ess l more ∙ g;
-            held = P.held;
-            each = λ j hj b c.
-                elim (cases_eq j l) [
+            long = length-set ess l more ∙ g ∙ sym (length-set board l P.lane) ∙ ap length (sym P.set);
+            each = λ j x hj.
+                let in_board : j < length board = omega (arith, ap length P.set, length-set board l P.lane) in
+                subst (λ bs. Keeps (count net) (get_or bs j x) (get_or (set ess l more) j [])) (sym P.set)
+                (elim (cases_eq j l) [
                   | inl q ↦
-                      subst (λ (i : ℕ). edge_at (cells_of is i) b c ≡ has (get_or (set ess l more) i []) b c) (sym q)
-                      (P.adds b c ∙ sym (both l h b c) ∙ ap (λ es. has es b c) (sym here))
+                      subst (λ i. Keeps (count net) (get_or (set board l P.lane) i x) (get_or (set ess l more) i [])) (sym q)
+                      (subst (λ y. Keeps (count net) y (get_or (set ess l more) l [])) (sym (get_or-set_same board l P.lane x h))
+                      (subst (λ es. Keeps (count net) P.lane es) (sym (get_or-set_same ess l more [] (omega arith)))
+                      (keeps_more (count net) new new_inside was (get_or ess l []) kept_was P.lane (P.adds P.lane) P.sound)))
                   | inr q ↦
-                      ap (λ (m : List Bool). edge_at m b c) (P.others j hj q) ∙ K.each j hj b c
-                      ∙ ap (λ es. has es b c) (sym (get_or-set_other ess l j more [] q))
-                ];
-            inside = λ j hj.
-                elim (cases_eq j l) [
-                  | inl q ↦ subst (λ (i : ℕ). Inside (count net) (get_or (set ess l more) i [])) (sym q) (subst (λ es. Inside (count net) es) (sym here) (both_inside l h))
-                  | inr q ↦ subst (λ es. Inside (count net) es) (sym (get_or-set_other ess l j more [] q)) (K.inside j hj)
-                ];
+                      subst (λ y. Keeps (count net) y (get_or (set ess l more) j [])) (sym (get_or-set_other board l j P.lane x q))
+                      (subst (λ es. Keeps (count net) (get_or board j x) es) (sym (get_or-set_other ess l j more [] q)) (K.each j x in_board))
+                ]);
           }
 
-  pair_next : (i : ℕ) (board : List LaneDraft) (done : List ℕ) → i < n * n → (i / n ≡ i % n → ⊥) → (F : Filing i board done)
-      → file_from net rule table (pairs_of n) (replicate lanes []) (replicate (n * n) 255)
-      ≡ onward (i / n) (i % n) (pairs_from n (i + 1)) F.ess (take (n * n) done) (fits_at (count net) (steps (route net rule (i / n) (i % n))) 0 F.ess)
-  pair_next i board done h q F =
-      F.left
-      ∙ ap (λ ps. file_from net rule table ps F.ess (take (n * n) done))
-      (pairs_on n i h ∙ ap (λ (b : Bool). cond (not b) (record { source = i / n; destination = i % n } ∷ []) [] ++ pairs_from n (i + 1)) (ne_eqb (i / n) (i % n) q))
+  abbrev onward : ℕ → ℕ → List Pair → List (List Edge) → List ℕ → Option ℕ → Planned
+  onward s d ps ess xs m =
+      elim m [
+        | None ↦ refused (refuse topology_layer 10 (s ∷ d ∷ []))
+        | Some l ↦ file_from net rule table ps (set ess l (steps (route net rule s d) ++ get_or ess l [])) (set xs (s * net.switches + d) l)
+      ]
 
-  -- A pair that fits in no lane.
-  pub filing_refused : (i : ℕ) (board is : List LaneDraft) (done : List ℕ) → i < n * n → (i / n ≡ i % n → ⊥) → Filing i board done
-      → Placed (count net) (has (steps (route net rule (i / n) (i % n)))) 0 lanes board is None
-      → file_from net rule table (pairs_of n) (replicate lanes []) (replicate (n * n) 255) ≡ refused (refuse topology_layer 10 (i / n ∷ i % n ∷ []))
-  filing_refused i board is done h q F P =
-      pair_next i board done h q F
-      ∙ ap (onward (i / n) (i % n) (pairs_from n (i + 1)) F.ess (take (n * n) done)) (fits_nowhere (i / n) (i % n) board F.ess F.kept is P)
+  module _ (first : Planned) (board : List Dependencies) (done : List ℕ) (p : Pair) (rest : List Pair) (F : Filing first board done (p ∷ rest)) where
+    -- A pair that fits in no lane.
+    pub filing_refused : (is : List Dependencies) → Placed (count net) (has (steps (route net rule p.source p.destination))) board is None
+        → first ≡ refused (refuse topology_layer 10 (p.source ∷ p.destination ∷ []))
+    filing_refused is P = F.left ∙ ap (onward p.source p.destination rest F.ess done) (fits_nowhere p.source p.destination board F.ess F.kept is P)
 
-  -- One more is filed.
-  pub filing_more : n ≡ net.switches → (i l : ℕ) (board is : List LaneDraft) (done : List ℕ) → i < n * n → (i / n ≡ i % n → ⊥) → Filing i board done
-      → Placed (count net) (has (steps (route net rule (i / n) (i % n)))) 0 lanes board is (Some l) → Filing (i + 1) is (set done i l)
-  filing_more e i l board is done h q F P =
-      let new' = steps (route net rule (i / n) (i % n)) in
-      let at : i / n * net.switches + i % n ≡ i = ap (λ (m : ℕ). i / n * m + i % n) (sym e) ∙ div-add-mod' i n in
-      record {
-        ess = set F.ess l (new' ++ get_or F.ess l []);
-        kept = kept_more (i / n) (i % n) board F.ess F.kept is l P;
-        left =
-            pair_next i board done h q F
-            ∙ ap (onward (i / n) (i % n) (pairs_from n (i + 1)) F.ess (take (n * n) done)) (fits_here (i / n) (i % n) board F.ess F.kept is l P)
-            ∙ ap (λ xs. file_from net rule table (pairs_from n (i + 1)) (set F.ess l (new' ++ get_or F.ess l [])) xs)
-            (ap (λ (k : ℕ). set (take (n * n) done) k l) at ∙ sym (take-set (n * n) i l done));
-      }
+    -- One more is filed.
+    pub filing_more : (is : List Dependencies) (l : ℕ) (more : List ℕ) → PlacedIn (count net) (has (steps (route net rule p.source p.destination))) board is l
+        → more ≡ set done (p.source * net.switches + p.destination) l → Filing first is more rest
+    filing_more is l more P e =
+        record {
+          ess = set F.ess l (steps (route net rule p.source p.destination) ++ get_or F.ess l []);
+          kept = kept_more p.source p.destination board F.ess F.kept is l P;
+          left =
+              F.left ∙ ap (onward p.source p.destination rest F.ess done) (fits_here p.source p.destination board F.ess F.kept is l P)
+              ∙ ap (file_from net rule table rest (set F.ess l (steps (route net rule p.source p.destination) ++ get_or F.ess l []))) (sym e);
+        }
 
-  pub filing_all : (i : ℕ) (board : List LaneDraft) (done : List ℕ) → n * n ≤ i → Filing i board done
-      → file_from net rule table (pairs_of n) (replicate lanes []) (replicate (n * n) 255) ≡ tables table (take (n * n) done)
-  filing_all i board done h F = F.left ∙ ap (λ ps. file_from net rule table ps F.ess (take (n * n) done)) (pairs_none n i h)
+  -- All are filed.
+  pub filing_all : (first : Planned) (board : List Dependencies) (done : List ℕ) (rest : List Pair) → Filing first board done rest → rest ≡ []
+      → first ≡ tables table done
+  filing_all first board done rest F e = F.left ∙ ap (λ ps. file_from net rule table ps F.ess done) e

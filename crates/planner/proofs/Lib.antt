@@ -1,11 +1,8 @@
-pub mod Stepping
 pub mod Closing
 pub mod Adding
-pub mod TableCells
 pub mod Squares
 pub mod Measuring
 pub mod Choosing
-pub mod Refusing
 pub mod Placing
 pub mod Completing
 pub mod FiledPairs

@@ -1,5 +1,5 @@
 pub mod Faults
-pub mod Cells
+pub mod Cycles
 pub mod Drafts
 pub mod Rows
 pub mod Stages

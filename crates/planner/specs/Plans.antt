@@ -5,7 +5,7 @@ use Rattle.model.specs.Rules.{table_rule}
 use Rattle.model.specs.Routes.{pairs_of}
 use Rattle.model.specs.Refusals.{Refusal, refuse, call_layer}
 use Rattle.model.specs.Planner.{Planned, tables, refused, unless, hop_table, copied, path_refusal, routes_refusal, planned}
-use Rattle.planner.specs.Drafts.{front}
+use Rattle.fabric.specs.Of.{net}
 use Rattle.planner.specs.Faults.{topology_refusal}
 use Rattle.planner.specs.declared.draft.Draft.{Draft}
 use Rattle.planner.specs.declared.fault.TopologyFault.{TopologyFault}
@@ -15,12 +15,13 @@ abbrev pub given_long : ℕ → Option (List ℕ) → Bool
 given_long n None = true
 given_long n (Some table) = nat_le (n * n) (length table)
 
--- The refusal of the call: 14 where the lane count is not 1 to 8, then 13 where a table is below n × n bytes.
+-- The refusal of the tables: 13 where one is below n × n bytes.
+abbrev pub list_test : ℕ → Option (List ℕ) → ℕ → ℕ → Option Refusal
+list_test n given c l = cond (nat_le (n * n) c && nat_le (n * n) l && given_long n given) None (Some (refuse call_layer 13 []))
+
+-- The refusal of the call: 14 where the lane count is not 1 to 8, then that of the tables.
 abbrev pub call_test : ℕ → ℕ → Option (List ℕ) → ℕ → ℕ → Option Refusal
-call_test n lanes given c l =
-    cond (nat_le 1 lanes && nat_le lanes 8)
-    (cond (nat_le (n * n) c && nat_le (n * n) l && given_long n given) None (Some (refuse call_layer 13 [])))
-    (Some (refuse call_layer 14 []))
+call_test n lanes given c l = cond (nat_le 1 lanes && nat_le lanes 8) (list_test n given c l) (Some (refuse call_layer 14 []))
 
 -- The channel table to file by: the given one, or else the channels one hop nearer.
 abbrev pub table_of : Net → Option (List ℕ) → List ℕ
@@ -34,7 +35,7 @@ table_refusal net (Some given) = routes_refusal net (table_rule net.switches (co
 
 -- x holds this channel table of a fabric.
 abbrev pub Drafted : Net → List ℕ → Draft → Type 0
-Drafted net table x = (x.switches ≡ net.switches) × (front net.switches x.cells ≡ table)
+Drafted net' table x = (net x.fabric.now ≡ net') × (x.cells.items ≡ table)
 
 -- The whole answer: the tests of the call, then the plan.
 abbrev pub answer : Net → ℕ → Option (List ℕ) → ℕ → ℕ → Planned

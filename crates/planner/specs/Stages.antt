@@ -1,20 +1,16 @@
 -- What the stages of planning answer.
-use Rattle.std.specs.Prelude.{◌≡◌, ℕ, cond, List, [], ◌∷◌, is_some, Some, None, Ok, Err, Option, Result, ◌==◌}
-use Rattle.model.specs.Net.{Net}
-use Rattle.model.specs.Rules.{Rule}
-use Rattle.model.specs.Routes.{route_ends}
-use Rattle.model.specs.Refusals.{Refusal, refuse, topology_layer}
-use Rattle.model.specs.Planner.{Planned, tables, refused, hops, ending_refusal}
+use Rattle.std.specs.Prelude.{◌≡◌, ℕ, ◌*◌, List, Some, None, Ok, Err, Option, Result}
+use Rattle.model.specs.Routes.{Ending}
+use Rattle.model.specs.Refusals.{Refusal}
+use Rattle.model.specs.Planner.{Planned, tables, refused, ending_refusal}
+use Rattle.arrayvec.specs.ArrayVec.{ArrayVec, array_vec_len}
 use Rattle.planner.specs.Faults.{topology_refusal}
 use Rattle.planner.specs.declared.fault.TopologyFault.{TopologyFault}
 
--- The refusal of switches s and d where no path joins them; none where they are the same.
-abbrev pub path_fault : Net → ℕ → ℕ → Option Refusal
-path_fault net s d = cond (s == d) None (cond (is_some (hops net s d)) None (Some (refuse topology_layer 9 (s ∷ d ∷ []))))
-
--- The refusal of switches s and d by how their route ends; none where they are the same.
-abbrev pub route_fault : Net → Rule → ℕ → ℕ → Option Refusal
-route_fault net rule s d = cond (s == d) None (ending_refusal s d (route_ends net rule s d))
+-- The refusal of switches s and d by how their route ends, if they are a pair.
+abbrev pub ending_fault : ℕ → ℕ → Option Ending → Option Refusal
+ending_fault s d None = None
+ending_fault s d (Some e) = ending_refusal s d e
 
 -- A test: passed where nothing is refused, else the refusal.
 abbrev pub Judges : {F : Type 0} → (F → Option Refusal) → Option Refusal → Result (Unit {0}) F → Type 0
@@ -26,7 +22,7 @@ abbrev pub Drafts : {X : Type 0} → Option Refusal → (X → Type 0) → Resul
 Drafts o P (Ok x) = (o ≡ None) × P x
 Drafts o P (Err f) = (r : Refusal) × (o ≡ Some r) × (topology_refusal f ≡ Some r)
 
--- Two tables, or a refusal.
-abbrev pub Answers : {X : Type 0} → Planned → (X → List ℕ) → (X → List ℕ) → Result X TopologyFault → Type 0
-Answers p h l (Ok x) = p ≡ tables (h x) (l x)
-Answers p h l (Err f) = (r : Refusal) × (p ≡ refused r) × (topology_refusal f ≡ Some r)
+-- The lane table, n × n bytes, of a plan with this channel table, or a refusal.
+abbrev pub Answers : ℕ → List ℕ → Planned → Result (ArrayVec ℕ) TopologyFault → Type 0
+Answers n hops p (Ok x) = (p ≡ tables hops x.items) × (array_vec_len x ≡ n * n)
+Answers n hops p (Err f) = (r : Refusal) × (p ≡ refused r) × (topology_refusal f ≡ Some r)

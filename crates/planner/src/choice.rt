@@ -1,12 +1,13 @@
-ghost use Rattle.std.specs.Prelude.{◌≡◌, ◌<◌, ◌≤◌, take};
-ghost use Rattle.model.specs.Planner.{one_more, nearer, chosen, hop_table};
+ghost use Rattle.std.specs.Prelude.{◌≡◌, true};
+ghost use Rattle.model.specs.Net.{is_pair};
+ghost use Rattle.model.specs.Planner.{one_more, nearer, chosen, byte_of, hop_table};
 ghost use Rattle.fabric.specs.Of.{net};
-ghost use Rattle.planner.specs.Drafts.{front};
-ghost use Rattle.planner.specs.Rows.{Measured, is_nearer, toward_byte};
+ghost use Rattle.planner.specs.Rows.{is_nearer};
 
 use crate::draft::{Draft, NONE};
 use crate::rows::HopRows;
-use fabric::Fabric;
+use arrayvec::ArrayVec;
+use fabric::Pair;
 
 // Whether one hop count is one more than the other.
 fn one_more(near: Option<u32>, far: Option<u32>) -> bool
@@ -18,89 +19,55 @@ fn one_more(near: Option<u32>, far: Option<u32>) -> bool
     }
 }
 
-// Whether a channel leaves a switch for one that is one hop nearer to the destination.
-fn is_nearer(fabric: &Fabric, rows: &HopRows, channel: u32, switch: u32, destination: u32) -> bool
-    requires here { switch < (net fabric.now).switches }
-    requires there { destination < (net fabric.now).switches }
-    requires measured { Measured (net fabric.now) rows.now.rows }
-    ensures { result ≡ is_nearer (net fabric.now) switch destination channel }
-{
-    let Some(joined) = fabric.channel(channel) else {
-        return false;
-    };
-    if joined.start as u32 != switch {
-        return false;
-    }
-    let near = rows.hops(joined.finish as u32, destination);
-    one_more(near, rows.hops(switch, destination))
-}
-
-// Writes the channels that leave a switch for one that is one hop nearer to the destination, ascending, to the front of the list, and
-// returns how many there are.
-fn candidates(
-    fabric: &Fabric,
-    rows: &HopRows,
-    switch: u32,
-    destination: u32,
-    list: &mut [u8; 128],
-) -> usize
-    requires here { switch < (net fabric.now).switches }
-    requires there { destination < (net fabric.now).switches }
-    requires measured { Measured (net fabric.now) rows.now.rows }
-    ensures few { result ≤ 128 }
-    ensures are { take result list.new ≡ nearer (net fabric.now) switch destination }
-{
-    let mut count = 0;
-    for channel in 0..fabric.channel_count() {
-        if is_nearer(fabric, rows, channel, switch, destination) {
-            list[count] = channel as u8;
-            count += 1;
-        }
-    }
-    count
-}
-
 // The candidate that the planner takes: the lowest.
 fn choose(candidates: &[u8]) -> Option<u8>
     ensures { result ≡ chosen candidates.now }
 {
-    if candidates.len() == 0 {
-        return None;
-    }
-    Some(candidates[0])
+    candidates.first().copied()
 }
 
-// The byte of the channel taken at a switch for a destination.
-fn toward(fabric: &Fabric, rows: &HopRows, switch: u32, destination: u32) -> u8
-    requires here { switch < (net fabric.now).switches }
-    requires there { destination < (net fabric.now).switches }
-    requires measured { Measured (net fabric.now) rows.now.rows }
-    ensures { result ≡ toward_byte (net fabric.now) switch destination }
-{
-    if switch == destination {
-        return NONE;
+impl<'a> HopRows<'a> {
+    // Whether a channel leaves a switch for one that is one hop nearer to the destination.
+    fn is_nearer(&self, channel: u32, pair: Pair) -> bool
+        requires { is_pair (net self.now.fabric.now).switches pair.source pair.destination ≡ true }
+        ensures { result ≡ is_nearer (net self.now.fabric.now) pair.source pair.destination channel }
+    {
+        let Some(joined) = self.fabric.channel(channel) else {
+            return false;
+        };
+        let near = self.hops(joined.finish, pair.destination);
+        let far = self.hops(pair.source, pair.destination);
+        joined.start == pair.source && one_more(near, far)
     }
-    let mut list = [NONE; 128];
-    let count = candidates(fabric, rows, switch, destination, &mut list);
-    match choose(&list[0..count]) {
-        Some(channel) => channel,
-        None => NONE,
-    }
-}
 
-// The table of the channels taken, each one hop nearer.
-pub(crate) fn shortest(fabric: &Fabric, rows: &HopRows) -> Draft
-    requires { Measured (net fabric.now) rows.now.rows }
-    ensures size { result.switches ≡ (net fabric.now).switches }
-    ensures table { front (net fabric.now).switches result.cells ≡ hop_table (net fabric.now) }
-{
-    let switches = fabric.switch_count();
-    let mut cells = [NONE; 1024];
-    for cell in 0..switches * switches {
-        cells[cell as usize] = toward(fabric, rows, cell / switches, cell % switches);
+    // The channels that leave a switch for one that is one hop nearer to the destination, ascending.
+    #[tactic(auto, using(crate::proofs::Choosing::gathered_yes, crate::proofs::Choosing::gathered_no, crate::proofs::Choosing::gathered_all))]
+    fn candidates(&self, pair: Pair) -> ArrayVec<u8, 128>
+        requires { is_pair (net self.now.fabric.now).switches pair.source pair.destination ≡ true }
+        ensures { result.items ≡ nearer (net self.now.fabric.now) pair.source pair.destination }
+    {
+        let mut list = ArrayVec::new();
+        for channel in 0..self.fabric.channel_count() {
+            if self.is_nearer(channel, pair) {
+                list.push(channel as u8);
+            }
+        }
+        list
     }
-    Draft {
-        switches: switches as u8,
-        cells,
+
+    // The byte of the channel taken at a switch for a destination.
+    fn toward(&self, pair: Pair) -> u8
+        requires { is_pair (net self.now.fabric.now).switches pair.source pair.destination ≡ true }
+        ensures { result ≡ byte_of (chosen (nearer (net self.now.fabric.now) pair.source pair.destination)) }
+    {
+        choose(&self.candidates(pair)).unwrap_or(NONE)
+    }
+
+    // The table of the channels taken, each one hop nearer.
+    pub(crate) fn shortest(&self) -> Draft<'a>
+        ensures on { result.fabric.now ≡ self.now.fabric.now }
+        ensures table { result.cells.items ≡ hop_table (net self.now.fabric.now) }
+    {
+        Draft::of(self.fabric, |pair| self.toward(pair))
     }
 }

@@ -6,15 +6,17 @@ ghost use Rattle.planner.specs.declared.fault.TopologyFault.TheVariants.{Rule};
 
 use fabric::CallFault;
 use routing::RuleFault;
+use thiserror::Error;
 
 // What is wrong with a topology: the cabling is sound, but allows no such plan. A pair is its source and its destination.
-#[derive(Clone, Copy, PartialEq, Eq, Debug)]
+#[derive(Clone, Copy, PartialEq, Eq, Debug, Error)]
 pub enum TopologyFault {
-    // A pair without a path.
+    #[error("no path leads from switch {0} to switch {1}")]
     NoPath(u8, u8),
-    // A pair that fits in no lane.
+    #[error("the route from switch {0} to switch {1} closes a cycle in every lane")]
     NoLane(u8, u8),
     // What is wrong with the given channels, or with the call.
+    #[error("{0}")]
     Rule(RuleFault),
 }
 

@@ -1,83 +1,49 @@
-ghost use Rattle.std.specs.Prelude.{◌≡◌, ◌≤◌};
+ghost use Rattle.std.specs.List.{All};
 ghost use Rattle.model.specs.Net.{count};
-ghost use Rattle.model.specs.Routes.{route, steps, has};
 ghost use Rattle.model.specs.Planner.{filed};
 ghost use Rattle.fabric.specs.Of.{net};
-ghost use Rattle.planner.specs.Boards.{Held, Placed};
-ghost use Rattle.planner.specs.Drafts.{rule_of, front};
+ghost use Rattle.planner.specs.Boards.{Sound, Placed};
+ghost use Rattle.planner.specs.Drafts.{needs};
 ghost use Rattle.planner.specs.Stages.{Answers};
 
+use crate::dependencies::file_in;
 use crate::draft::{Draft, NONE};
 use crate::fault::TopologyFault;
-use crate::lane::{LaneDraft, empty_lane, file_in};
-use fabric::Fabric;
+use arrayvec::ArrayVec;
+use fabric::{LaneCount, Pair};
+use routing::Dependencies;
 
-// Files a pair in the lowest lane, of those from `first` on, where no cycle closes.
-fn place_from(
-    fabric: &Fabric,
-    draft: &Draft,
-    board: &mut [LaneDraft; 8],
-    first: u32,
-    lanes: u32,
-    source: u8,
-    destination: u8,
-) -> Option<u8>
-    requires few { lanes ≤ 8 }
-    requires held { Held (count (net fabric.now)) lanes board.old }
-    ensures { Placed (count (net fabric.now)) (has (steps (route (net fabric.now) (rule_of draft.now) source destination))) first lanes board.old board.new result }
+// Files a pair in the lowest lane where no cycle closes, and returns which that is.
+fn place(draft: &Draft, board: &mut [Dependencies], pair: Pair) -> Option<usize>
+    requires { All (Sound (count (net draft.now.fabric.now))) board.old }
+    ensures { Placed (count (net draft.now.fabric.now)) (needs draft.now pair) board.old board.new result }
 {
-    for lane in first..lanes {
-        if file_in(
-            fabric,
-            draft,
-            &mut board[lane as usize],
-            source,
-            destination,
-        ) {
-            return Some(lane as u8);
+    for (lane, filed) in board.iter_mut().enumerate() {
+        if file_in(draft, filed, pair) {
+            return Some(lane);
         }
     }
     None
 }
 
-// Files a pair in the lowest lane where no cycle closes.
-fn place(
-    fabric: &Fabric,
-    draft: &Draft,
-    board: &mut [LaneDraft; 8],
-    lanes: u32,
-    source: u8,
-    destination: u8,
-) -> Option<u8>
-    requires few { lanes ≤ 8 }
-    requires held { Held (count (net fabric.now)) lanes board.old }
-    ensures { Placed (count (net fabric.now)) (has (steps (route (net fabric.now) (rule_of draft.now) source destination))) 0 lanes board.old board.new result }
-{
-    place_from(fabric, draft, board, 0, lanes, source, destination)
-}
-
 // Files every pair, by source, then destination, and returns the lane table. Refusal 10: a pair that fits in no lane.
 pub(crate) fn file_pairs(
-    fabric: &Fabric,
     draft: &Draft,
-    lanes: u32,
-) -> Result<[u8; 1024], TopologyFault>
-    requires few { lanes ≤ 8 }
-    requires size { draft.now.switches ≡ (net fabric.now).switches }
-    ensures { Answers (filed (net fabric.now) lanes (front (net fabric.now).switches draft.now.cells)) (λ _. front (net fabric.now).switches draft.now.cells) (front (net fabric.now).switches) result }
+    lanes: LaneCount,
+) -> Result<ArrayVec<u8, 1024>, TopologyFault>
+    ensures { Answers (net draft.now.fabric.now).switches draft.now.cells.items (filed (net draft.now.fabric.now) lanes.lanes draft.now.cells.items) result }
 {
-    let switches = fabric.switch_count();
-    let mut table = [NONE; 1024];
-    let mut board = [empty_lane(fabric); 8];
-    for cell in 0..switches * switches {
-        let source = (cell / switches) as u8;
-        let destination = (cell % switches) as u8;
-        if source != destination {
-            match place(fabric, draft, &mut board, lanes, source, destination) {
-                Some(lane) => table[cell as usize] = lane,
-                None => return Err(TopologyFault::NoLane(source, destination)),
-            }
-        }
+    let switches = draft.fabric.switch_count() as usize;
+    let mut board = [Dependencies::none(draft.fabric); 8];
+    let board = &mut board[..lanes.get() as usize];
+    let mut table = ArrayVec::from([NONE; 1024]);
+    table.truncate(switches * switches);
+    for pair in draft.fabric.pairs() {
+        let lane = place(draft, board, pair).ok_or(TopologyFault::NoLane(
+            pair.source,
+            pair.destination,
+        ))?;
+        table[pair.source as usize * switches + pair.destination as usize] = lane as u8;
     }
     Ok(table)
 }

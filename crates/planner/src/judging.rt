@@ -1,82 +1,52 @@
-ghost use Rattle.std.specs.Prelude.{◌<◌};
 ghost use Rattle.model.specs.Routes.{pairs_of};
 ghost use Rattle.model.specs.Planner.{path_refusal, routes_refusal};
 ghost use Rattle.fabric.specs.Of.{net};
 ghost use Rattle.routing.specs.Faults.{rule_refusal};
+ghost use Rattle.routing.specs.Walks.{pair_ends};
 ghost use Rattle.planner.specs.Drafts.{rule_of};
 ghost use Rattle.planner.specs.Faults.{topology_refusal};
-ghost use Rattle.planner.specs.Rows.{Measured};
-ghost use Rattle.planner.specs.Stages.{path_fault, route_fault, Judges};
+ghost use Rattle.planner.specs.Stages.{ending_fault, Judges};
 
 use crate::draft::Draft;
 use crate::fault::TopologyFault;
 use crate::rows::HopRows;
-use fabric::Fabric;
+use fabric::Pair;
 use routing::{Ending, RuleFault, route_ending};
 
-// Whether a path joins two switches.
-fn judge_path(
-    fabric: &Fabric,
-    rows: &HopRows,
-    source: u32,
-    destination: u32,
-) -> Result<(), TopologyFault>
-    requires from { source < (net fabric.now).switches }
-    requires to { destination < (net fabric.now).switches }
-    requires measured { Measured (net fabric.now) rows.now.rows }
-    ensures { Judges topology_refusal (path_fault (net fabric.now) source destination) result }
-{
-    if source == destination {
-        return Ok(());
-    }
-    match rows.hops(source, destination) {
-        Some(_) => Ok(()),
-        None => Err(TopologyFault::NoPath(source as u8, destination as u8)),
-    }
-}
-
 // Refusal 9: the first pair without a path.
-pub(crate) fn judge_paths(fabric: &Fabric, rows: &HopRows) -> Result<(), TopologyFault>
-    requires { Measured (net fabric.now) rows.now.rows }
-    ensures { Judges topology_refusal (path_refusal (net fabric.now) (pairs_of (net fabric.now).switches)) result }
+pub(crate) fn judge_paths(rows: &HopRows) -> Result<(), TopologyFault>
+    ensures { Judges topology_refusal (path_refusal (net rows.now.fabric.now) (pairs_of (net rows.now.fabric.now).switches)) result }
 {
-    let switches = fabric.switch_count();
-    for cell in 0..switches * switches {
-        judge_path(fabric, rows, cell / switches, cell % switches)?;
+    for pair in rows.fabric.pairs() {
+        if rows.hops(pair.source, pair.destination).is_none() {
+            return Err(TopologyFault::NoPath(pair.source, pair.destination));
+        }
     }
     Ok(())
 }
 
-// Whether the route of two switches arrives.
-fn judge_route(
-    fabric: &Fabric,
-    draft: &Draft,
-    source: u32,
-    destination: u32,
-) -> Result<(), RuleFault>
-    requires from { source < (net fabric.now).switches }
-    requires to { destination < (net fabric.now).switches }
-    ensures { Judges rule_refusal (route_fault (net fabric.now) (rule_of draft.now) source destination) result }
+// Whether the route of a pair arrives.
+fn judge_route(draft: &Draft, pair: Pair) -> Result<(), RuleFault>
+    ensures { Judges rule_refusal (ending_fault pair.source pair.destination (pair_ends (net draft.now.fabric.now) (rule_of draft.now) pair.source pair.destination)) result }
 {
-    let from = source as u8;
-    let to = destination as u8;
-    let Some(ending) = route_ending(fabric, draft, source, destination) else {
-        return Ok(());
-    };
-    match ending {
-        Ending::Arrives => Ok(()),
-        Ending::Stops(at) => Err(RuleFault::Stopped(from, to, at)),
-        Ending::Tires => Err(RuleFault::Unreached(from, to)),
+    match route_ending(
+        draft.fabric,
+        draft,
+        pair.source as u32,
+        pair.destination as u32,
+    ) {
+        None | Some(Ending::Arrives) => Ok(()),
+        Some(Ending::Stops(at)) => Err(RuleFault::Stopped(pair.source, pair.destination, at)),
+        Some(Ending::Tires) => Err(RuleFault::Unreached(pair.source, pair.destination)),
     }
 }
 
 // Refusals 5 and 6, pair by pair.
-pub(crate) fn judge_routes(fabric: &Fabric, draft: &Draft) -> Result<(), TopologyFault>
-    ensures { Judges topology_refusal (routes_refusal (net fabric.now) (rule_of draft.now) (pairs_of (net fabric.now).switches)) result }
+pub(crate) fn judge_routes(draft: &Draft) -> Result<(), TopologyFault>
+    ensures { Judges topology_refusal (routes_refusal (net draft.now.fabric.now) (rule_of draft.now) (pairs_of (net draft.now.fabric.now).switches)) result }
 {
-    let switches = fabric.switch_count();
-    for cell in 0..switches * switches {
-        judge_route(fabric, draft, cell / switches, cell % switches)?;
+    for pair in draft.fabric.pairs() {
+        judge_route(draft, pair)?;
     }
     Ok(())
 }

@@ -2,12 +2,11 @@
 #![tactic(auto)]
 
 mod choice;
+mod dependencies;
 mod draft;
 pub mod fault;
 mod filing;
-mod given;
 mod judging;
-mod lane;
 mod planning;
 mod rows;
 

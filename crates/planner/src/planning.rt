@@ -1,74 +1,70 @@
-ghost use Rattle.std.specs.Prelude.{◌≡◌, ◌*◌, ◌≤◌, true, ◌++◌, length, take, drop, Some, None};
+ghost use Rattle.std.specs.Prelude.{◌≡◌, ◌*◌, ◌≤◌, true, ◌++◌, length, drop, Some, None};
 ghost use Rattle.std.specs.Option.{option_map};
-ghost use Rattle.model.specs.Planner.{planned};
+ghost use Rattle.model.specs.Planner.{copied};
 ghost use Rattle.fabric.specs.Faults.{call_refusal};
 ghost use Rattle.fabric.specs.Of.{net};
-ghost use Rattle.planner.specs.Drafts.{front};
-ghost use Rattle.planner.specs.Plans.{given_long, call_test, table_of, table_refusal, Drafted, Plans};
-ghost use Rattle.planner.specs.Stages.{Judges, Drafts, Answers};
+ghost use Rattle.planner.specs.Plans.{list_test, table_of, table_refusal, Drafted, Plans};
+ghost use Rattle.planner.specs.Stages.{Judges, Drafts};
 
-use crate::choice::shortest;
 use crate::draft::Draft;
 use crate::fault::TopologyFault;
 use crate::filing::file_pairs;
-use crate::given::copy_given;
 use crate::judging::{judge_paths, judge_routes};
-use crate::rows::measure;
-use fabric::{CallFault, Fabric};
+use crate::rows::HopRows;
+use fabric::{CallFault, Fabric, LaneCount};
+use routing::table::cell;
 
-// Both tables of a plan, each n × n bytes and then nothing.
-#[derive(Clone, Copy)]
-struct Tables {
-    channels: [u8; 1024],
-    lanes: [u8; 1024],
-}
-
-// Refusals 14 and 13.
-fn judge_call(
+// Refusal 13: a table that is too short.
+fn judge_lists(
     fabric: &Fabric,
-    lanes: u32,
     given: Option<&[u8]>,
     channels: &[u8],
     lane_table: &[u8],
 ) -> Result<(), CallFault>
-    ensures { Judges call_refusal (call_test (net fabric.now).switches lanes (option_map (λ t. t.now) given.entry) (length channels.now) (length lane_table.now)) result }
+    ensures { Judges call_refusal (list_test (net fabric.now).switches (option_map (λ t. t.now) given.entry) (length channels.now) (length lane_table.now)) result }
 {
-    if lanes < 1 || lanes > 8 {
-        return Err(CallFault::LaneCount);
-    }
     let switches = fabric.switch_count() as usize;
     let cells = switches * switches;
-    if channels.len() < cells || lane_table.len() < cells {
+    if channels.len() < cells
+        || lane_table.len() < cells
+        || given.is_some_and(|table| table.len() < cells)
+    {
         return Err(CallFault::ShortList);
     }
-    match given {
-        Some(table) if table.len() < cells => Err(CallFault::ShortList),
-        _ => Ok(()),
-    }
+    Ok(())
 }
 
 // The channels one hop nearer, if every pair has a path.
-fn draft_shortest(fabric: &Fabric) -> Result<Draft, TopologyFault>
+fn draft_shortest(fabric: &Fabric) -> Result<Draft<'_>, TopologyFault>
     ensures { Drafts (table_refusal (net fabric.now) None) (Drafted (net fabric.now) (table_of (net fabric.now) None)) result }
 {
-    let rows = measure(fabric);
-    judge_paths(fabric, &rows)?;
-    Ok(shortest(fabric, &rows))
+    let rows = HopRows::measure(fabric);
+    judge_paths(&rows)?;
+    Ok(rows.shortest())
+}
+
+// The given channels, with none on the diagonal.
+fn copy_given<'a>(fabric: &'a Fabric, given: &[u8]) -> Draft<'a>
+    ensures on { result.fabric.now ≡ fabric.now }
+    ensures table { result.cells.items ≡ copied (net fabric.now).switches given.now }
+{
+    let switches = fabric.switch_count() as u8;
+    Draft::of(fabric, |pair| {
+        cell(given, switches, pair.source, pair.destination)
+    })
 }
 
 // The given channels, if every route arrives.
-fn draft_given(fabric: &Fabric, given: &[u8]) -> Result<Draft, TopologyFault>
-    requires { (net fabric.now).switches * (net fabric.now).switches ≤ length given.now }
+fn draft_given<'a>(fabric: &'a Fabric, given: &[u8]) -> Result<Draft<'a>, TopologyFault>
     ensures { Drafts (table_refusal (net fabric.now) (Some given.now)) (Drafted (net fabric.now) (table_of (net fabric.now) (Some given.now))) result }
 {
     let draft = copy_given(fabric, given);
-    judge_routes(fabric, &draft)?;
+    judge_routes(&draft)?;
     Ok(draft)
 }
 
 // The table to file by: the given one, or else the channels one hop nearer.
-fn draft_table(fabric: &Fabric, given: Option<&[u8]>) -> Result<Draft, TopologyFault>
-    requires { given_long (net fabric.now).switches (option_map (λ t. t.now) given) ≡ true }
+fn draft_table<'a>(fabric: &'a Fabric, given: Option<&[u8]>) -> Result<Draft<'a>, TopologyFault>
     ensures { Drafts (table_refusal (net fabric.now) (option_map (λ t. t.now) given.entry)) (Drafted (net fabric.now) (table_of (net fabric.now) (option_map (λ t. t.now) given.entry))) result }
 {
     match given {
@@ -77,39 +73,12 @@ fn draft_table(fabric: &Fabric, given: Option<&[u8]>) -> Result<Draft, TopologyF
     }
 }
 
-// Makes both tables.
-fn plan_tables(fabric: &Fabric, lanes: u32, given: Option<&[u8]>) -> Result<Tables, TopologyFault>
-    requires few { lanes ≤ 8 }
-    requires long { given_long (net fabric.now).switches (option_map (λ t. t.now) given) ≡ true }
-    ensures { Answers (planned (net fabric.now) lanes (option_map (λ t. t.now) given.entry)) (λ x. front (net fabric.now).switches x.channels) (λ x. front (net fabric.now).switches x.lanes) result }
+// Copies a table to the front of a list.
+fn write_front(table: &[u8], list: &mut [u8])
+    requires { length table.now ≤ length list.old }
+    ensures { list.new ≡ table.now ++ drop (length table.now) list.old }
 {
-    let draft = draft_table(fabric, given)?;
-    let lanes = file_pairs(fabric, &draft, lanes)?;
-    Ok(Tables {
-        channels: draft.cells,
-        lanes,
-    })
-}
-
-// Copies the first `size` bytes of a list to the front of another.
-fn write_front(from: &[u8; 1024], size: usize, to: &mut [u8])
-    requires { (size ≤ 1024) × (size ≤ length to.old) }
-    ensures { to.new ≡ take size from.now ++ drop size to.old }
-{
-    to[0..size].copy_from_slice(&from[0..size]);
-}
-
-// Copies both tables to the fronts of the caller's lists.
-fn write_tables(fabric: &Fabric, tables: &Tables, channels: &mut [u8], lane_table: &mut [u8])
-    requires channels { (net fabric.now).switches * (net fabric.now).switches ≤ length channels.old }
-    requires lanes { (net fabric.now).switches * (net fabric.now).switches ≤ length lane_table.old }
-    ensures channels { channels.new ≡ front (net fabric.now).switches tables.now.channels ++ drop ((net fabric.now).switches * (net fabric.now).switches) channels.old }
-    ensures lanes { lane_table.new ≡ front (net fabric.now).switches tables.now.lanes ++ drop ((net fabric.now).switches * (net fabric.now).switches) lane_table.old }
-{
-    let switches = fabric.switch_count() as usize;
-    let cells = switches * switches;
-    write_front(&tables.channels, cells, channels);
-    write_front(&tables.lanes, cells, lane_table);
+    list[..table.len()].copy_from_slice(table);
 }
 
 // Plans a fabric with this many lanes: writes the channel of every pair, by row of the switch, to the front of `channels`, and its lane
@@ -125,8 +94,11 @@ pub fn plan(
 ) -> Result<(), TopologyFault>
     ensures { Plans (net fabric.now) lanes (option_map (λ t. t.now) given.entry) channels.old channels.new lane_table.old lane_table.new result }
 {
-    judge_call(fabric, lanes, given, channels, lane_table)?;
-    let tables = plan_tables(fabric, lanes, given)?;
-    write_tables(fabric, &tables, channels, lane_table);
+    let lanes = LaneCount::try_from(lanes)?;
+    judge_lists(fabric, given, channels, lane_table)?;
+    let draft = draft_table(fabric, given)?;
+    let filed = file_pairs(&draft, lanes)?;
+    write_front(&draft.cells, channels);
+    write_front(&filed, lane_table);
     Ok(())
 }

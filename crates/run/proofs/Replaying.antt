@@ -22,9 +22,6 @@ replies_push g h [] x = refl
 replies_push g h (y ∷ xs) x = ap (λ (z : List Reply). reply_to g h y ∷ z) (replies_push g (grown h y) xs x)
 
 module _ {R : Type 0} (maps : R → Rule) (r : Run R) where
-  pub all_none : (old : List Answer) → KeepsAll maps r [] r old old
-  all_none old = record { same = refl; kept = λ h f. (f, refl); rest = refl }
-
   -- One more request.
   all_push : (xs : List Request) (x : Request) (r₁ r₂ : Run R) (old new : List Answer) (a : Answer) → length xs < length new
       → KeepsAll maps r xs r₁ old new → Keeps maps r₁ x r₂ (answer_reply a) → KeepsAll maps r (xs ++ x ∷ []) r₂ old (set new (length xs) a)

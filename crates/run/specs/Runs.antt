@@ -1,11 +1,11 @@
 -- What a run promises, for any rule: its maps come first.
-use Rattle.std.specs.Prelude.{◌≡◌, ℕ, ◌<◌, ◌≤◌, Bool, true, ◌⊎◌, List, [], ◌∷◌, ◌++◌, map, length, take, drop, is_some, Some, None, Ok, Err, Option, Result}
+use Rattle.std.specs.Prelude.{◌≡◌, ℕ, ◌<◌, ◌≤◌, Bool, ◌⊎◌, List, [], ◌∷◌, ◌++◌, map, length, take, drop, Some, Ok, Err, Option, Result}
 use Rattle.model.specs.Refusals.{Refusal, refuse, call_layer}
 use Rattle.model.specs.Rules.{Rule, Setup}
-use Rattle.model.specs.Packets.{bare, Call, Request, Reply, said}
-use Rattle.model.specs.State.{each, with_sender}
-use Rattle.model.specs.Positions.{position_count}
-use Rattle.model.specs.Run.{step, contends, sender_taken}
+use Rattle.model.specs.Packets.{Packet, bare, Call, Request, Reply, said}
+use Rattle.model.specs.State.{State, each}
+use Rattle.model.specs.Positions.{Position, position_count, position_at}
+use Rattle.model.specs.Run.{step, contends}
 use Rattle.model.specs.History.{state_after, reply, grown, reply_to, asked, replies}
 use Rattle.model.specs.Promise.{Law}
 use Rattle.model.specs.Verdicts.{Accepts}
@@ -13,10 +13,11 @@ use Rattle.fabric.specs.Faults.{call_refusal}
 use Rattle.fabric.specs.Of.{net}
 use Rattle.fabric.specs.declared.fault.CallFault.{CallFault}
 use Rattle.fabric.specs.declared.network.Fabric.{Fabric}
-use Rattle.run.specs.Words.{packet_of, request_of, answer_reply}
+use Rattle.run.specs.Words.{request_of, answer_reply}
 use Rattle.run.specs.View.{view}
-use Rattle.run.specs.declared.packet.Packet.{Packet as CodePacket}
+use Rattle.run.specs.declared.board.Board.{Board}
 use Rattle.run.specs.declared.run.Run.{Run}
+use Rattle.run.specs.declared.setup.Setup.{Setup as CodeSetup}
 use Rattle.run.specs.declared.site.Site.{Site}
 use Rattle.run.specs.declared.words.Answer.{Answer}
 use Rattle.run.specs.declared.words.Request.{Request as CodeRequest}
@@ -28,36 +29,45 @@ bad_lane_count = refuse call_layer 14 []
 abbrev pub short_list : Refusal
 short_list = refuse call_layer 13 []
 
+-- A board did what the rules of a setup say of this call, and answered that.
+pub record Does (g : Setup) (b : Board) (c : Call) (b' : Board) (a : Option Reply) : Type 0 where
+  pub state : view b' ≡ (step (λ p. p) (λ p. p) g (view b) c).state
+  pub says : a ≡ Some (said (λ p. p) (step (λ p. p) (λ p. p) g (view b) c).event)
+
+-- Position p of the site's channel, and how many positions the channel has.
+abbrev pub position_of : {R : Type 0} → Site R → ℕ → Option Position
+position_of x p = position_at (net x.setup.now.fabric.now) x.slot.channel p
+
+abbrev pub positions_of : {R : Type 0} → Site R → ℕ
+positions_of x = position_count (net x.setup.now.fabric.now) x.slot.channel
+
 module _ {R : Type 0} (maps : R → Rule) where
-  -- What a run was opened on.
+  -- The setup of a fabric, a lane count and a rule.
+  abbrev pub setup_for : Fabric → ℕ → R → Setup
+  setup_for f n rule = record { net = net f; lanes = n; rule = maps rule }
+
+  -- The code's setup as the model's: that of a run, and that of a site.
+  abbrev pub plain_setup : CodeSetup R → Setup
+  plain_setup s = setup_for s.fabric.now s.lanes.lanes s.rule.now
+
   abbrev pub setup_of : Run R → Setup
-  setup_of r = record { net = net r.fabric.now; lanes = r.lanes; rule = maps r.rule.now }
+  setup_of r = plain_setup r.setup
+
+  abbrev pub setup_at : Site R → Setup
+  setup_at x = plain_setup x.setup.now
 
   -- The run shows what the reference run shows after this history: every slot, mark and sender slot.
   abbrev pub Follows : Run R → List Call → Type 0
   Follows r h = view r.board ≡ each bare (state_after (setup_of r) h)
 
-  -- Which positions contend for the site, on what the run shows.
-  abbrev pub contending : Run R → Site → ℕ → Bool
-  contending r x = contends (λ p. p) (λ p. p) (setup_of r) (view r.board) x.channel x.lane
+  -- Which positions contend for the site, on what a board shows.
+  abbrev pub contending : Site R → State Packet → ℕ → Bool
+  contending x s = contends (λ p. p) (λ p. p) (setup_at x) s x.slot.channel x.slot.lane
 
-  -- How many positions the site's channel has.
-  abbrev pub positions_of : Run R → Site → ℕ
-  positions_of r x = position_count (setup_of r).net x.channel
-
-  -- The run did what the rules say of this call, and answered that.
+  -- The same of a run, whose setup stays.
   pub record Steps (r : Run R) (c : Call) (r' : Run R) (a : Option Reply) : Type 0 where
     pub same : setup_of r' ≡ setup_of r
-    pub state : view r'.board ≡ (step (λ p. p) (λ p. p) (setup_of r) (view r.board) c).state
-    pub says : a ≡ Some (said (λ p. p) (step (λ p. p) (λ p. p) (setup_of r) (view r.board) c).event)
-
-  -- A packet let in, or the refusal of a sender slot that is taken.
-  abbrev pub Admits : Run R → CodePacket → ℕ → Run R → Result (Unit {0}) CallFault → Type 0
-  Admits r p ℓ r' (Ok _) =
-      (setup_of r' ≡ setup_of r) × ((view r.board).sender p.source ℓ ≡ None)
-      × (view r'.board ≡ with_sender (view r.board) p.source ℓ (Some (packet_of p)))
-  Admits r p ℓ r' (Err e) =
-      (r' ≡ r) × (is_some ((view r.board).sender p.source ℓ) ≡ true) × (call_refusal e ≡ Some sender_taken)
+    pub did : Does (setup_of r) r.board c r'.board a
 
   -- After any history that the run follows, it follows that history and the call, and answers as the reference run.
   pub record Obeys (r : Run R) (c : Call) (r' : Run R) (a : Option Reply) : Type 0 where
@@ -81,10 +91,6 @@ module _ {R : Type 0} (maps : R → Rule) where
     pub kept : (h : List Call) → Follows r h
         → Follows r' (asked h xs) × (map answer_reply (take (length xs) new) ≡ map Some (replies (setup_of r) h xs))
     pub rest : drop (length xs) new ≡ drop (length xs) old
-
-  -- The setup of a fabric, a lane count and a rule.
-  abbrev pub setup_for : Fabric → ℕ → R → Setup
-  setup_for f n rule = record { net = net f; lanes = n; rule = maps rule }
 
   -- Opening: refused exactly where the lane count is not 1 to 8; else a run on this setup that follows the empty history.
   abbrev pub Opened : Fabric → ℕ → R → Result (Run R) CallFault → Type 0

@@ -64,3 +64,7 @@ answer_reply Taken = Some says_taken
 answer_reply (Served o) = Some (outcome_reply o)
 answer_reply (Holds o) = Some (says_holds (option_map packet_of o))
 answer_reply (Refused f) = rule_reply f
+
+abbrev pub request_reply : Result Answer RuleFault → Option Reply
+request_reply (Ok a) = answer_reply a
+request_reply (Err f) = rule_reply f

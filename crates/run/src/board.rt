@@ -1,10 +1,14 @@
-ghost use Rattle.std.specs.Prelude.{◌≡◌, ◌<◌};
+ghost use Rattle.std.specs.Prelude.{◌≡◌};
 ghost use Rattle.std.specs.Option.{option_map};
 ghost use Rattle.model.specs.State.{empty, with_slot, with_mark, with_sender};
 ghost use Rattle.run.specs.Words.{packet_of};
+ghost use Rattle.run.specs.Sites.{Admits};
 ghost use Rattle.run.specs.View.{view, slot_at, sender_at};
 
+use crate::by_lane::ByLane;
 use crate::packet::Packet;
+use crate::place::{SenderPlace, SlotPlace};
+use fabric::CallFault;
 
 // One lane of one channel: what it holds, and its turn mark, the position to be asked first.
 #[derive(Clone, Copy)]
@@ -13,11 +17,11 @@ pub struct Slot {
     pub mark: u8,
 }
 
-// All slots and all sender slots, eight lanes to each channel and to each switch.
+// The slots of each channel, and the sender slots of each switch.
 #[derive(Drop)]
 pub struct Board {
-    pub slots: [Slot; 1024],
-    pub senders: [Option<Packet>; 256],
+    pub slots: [ByLane<Slot>; 128],
+    pub senders: [ByLane<Option<Packet>>; 32],
 }
 
 impl Board {
@@ -25,47 +29,60 @@ impl Board {
     pub fn new() -> Board
         ensures { view result ≡ empty }
     {
+        let empty = Slot {
+            held: None,
+            mark: 0,
+        };
         Board {
-            slots: [Slot {
-                held: None,
-                mark: 0,
-            }; 1024],
-            senders: [None; 256],
+            slots: [ByLane { items: [empty; 8] }; 128],
+            senders: [ByLane { items: [None; 8] }; 32],
         }
     }
 
-    pub fn slot(&self, channel: u8, lane: u8) -> Slot
-        requires { (channel < 128) × (lane < 8) }
-        ensures { result ≡ slot_at self.now channel lane }
+    // What stands in a slot.
+    pub fn slot(&self, at: SlotPlace) -> Slot
+        ensures { result ≡ slot_at self.now at.channel at.lane }
     {
-        self.slots[channel as usize * 8 + lane as usize]
+        self.slots[at.channel as usize].get(at.lane)
     }
 
-    pub fn sender(&self, switch: u8, lane: u8) -> Option<Packet>
-        requires { (switch < 32) × (lane < 8) }
-        ensures { result ≡ sender_at self.now switch lane }
+    // What stands in a sender slot.
+    pub fn sender(&self, at: SenderPlace) -> Option<Packet>
+        ensures { result ≡ sender_at self.now at.switch at.lane }
     {
-        self.senders[switch as usize * 8 + lane as usize]
+        self.senders[at.switch as usize].get(at.lane)
     }
 
-    pub fn hold(&mut self, channel: u8, lane: u8, held: Option<Packet>)
-        requires { (channel < 128) × (lane < 8) }
-        ensures { view self.new ≡ with_slot (view self.old) channel lane (option_map packet_of held) }
+    // Puts a packet, or none, and a turn mark into a slot.
+    pub fn set(&mut self, at: SlotPlace, slot: Slot)
+        ensures { view self.new ≡ with_mark (with_slot (view self.old) at.channel at.lane (option_map packet_of slot.held)) at.channel at.lane slot.mark }
     {
-        self.slots[channel as usize * 8 + lane as usize].held = held;
+        self.slots[at.channel as usize].put(at.lane, slot);
     }
 
-    pub fn turn(&mut self, channel: u8, lane: u8, mark: u8)
-        requires { (channel < 128) × (lane < 8) }
-        ensures { view self.new ≡ with_mark (view self.old) channel lane mark }
+    // Puts a packet, or none, into a slot, and leaves its turn mark.
+    pub fn hold(&mut self, at: SlotPlace, held: Option<Packet>)
+        ensures { view self.new ≡ with_slot (view self.old) at.channel at.lane (option_map packet_of held) }
     {
-        self.slots[channel as usize * 8 + lane as usize].mark = mark;
+        let mark = self.slot(at).mark;
+        self.set(at, Slot { held, mark });
     }
 
-    pub fn load(&mut self, switch: u8, lane: u8, held: Option<Packet>)
-        requires { (switch < 32) × (lane < 8) }
-        ensures { view self.new ≡ with_sender (view self.old) switch lane (option_map packet_of held) }
+    // Puts a packet, or none, into a sender slot.
+    pub fn load(&mut self, at: SenderPlace, held: Option<Packet>)
+        ensures { view self.new ≡ with_sender (view self.old) at.switch at.lane (option_map packet_of held) }
     {
-        self.senders[switch as usize * 8 + lane as usize] = held;
+        self.senders[at.switch as usize].put(at.lane, held);
+    }
+
+    // Puts a packet into its sender slot, unless that is taken.
+    pub fn admit(&mut self, at: SenderPlace, packet: Packet) -> Result<(), CallFault>
+        ensures { Admits (view self.old) at (packet_of packet) (view self.new) result }
+    {
+        if self.sender(at).is_some() {
+            return Err(CallFault::SenderTaken);
+        }
+        self.load(at, Some(packet));
+        Ok(())
     }
 }

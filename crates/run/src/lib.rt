@@ -2,8 +2,11 @@
 #![tactic(auto)]
 
 mod board;
+mod by_lane;
 pub mod packet;
+mod place;
 pub mod run;
+mod setup;
 mod site;
 pub mod words;
 

@@ -1,35 +1,11 @@
-ghost use Rattle.std.specs.Prelude.{◌+◌, ◌*◌, length, if◌then◌else◌, Some, None, nat_lt, slice_index};
-ghost use Rattle.model.specs.Rules.{channel_byte};
+ghost use Rattle.std.specs.Prelude.{Some};
 
 use crate::packet::Packet;
 use crate::run::Run;
 use crate::words::{Answer, Call, Outcome, Request};
 use fabric::{CallFault, Fabric};
-use routing::{RouteRule, RuleFault};
+use routing::{RouteRule, Rows, RuleFault};
 use std::test::Fail;
-
-// A list of channels by switch and destination, four to a row; every lane is 0.
-#[derive(Drop)]
-struct Rows<'a> {
-    channels: &'a [u8],
-}
-
-impl RouteRule for Rows<'_> {
-    ghost maps = { λ s. record { next = λ u d. (if nat_lt (u * 4 + d) (length s.channels.now) then channel_byte (slice_index s.channels.now (u * 4 + d)) else None); lane = λ _ _. 0 } };
-
-    fn channel(&self, switch: u8, destination: u8) -> Option<u8> {
-        let at = switch as usize * 4 + destination as usize;
-        if at >= self.channels.len() {
-            return None;
-        }
-        let channel = self.channels[at];
-        if channel < 255 { Some(channel) } else { None }
-    }
-
-    fn lane(&self, _source: u8, _destination: u8) -> u8 {
-        0
-    }
-}
 
 // A rule that fits no fabric.
 #[derive(Drop)]
@@ -52,11 +28,16 @@ const ENDS: [u8; 8] = [0, 1, 1, 2, 2, 3, 3, 0];
 
 const ROWS: [u8; 16] = [255, 0, 0, 7, 1, 255, 2, 1, 3, 3, 255, 4, 6, 5, 5, 255];
 
+const RULE: Rows = Rows {
+    switches: 4,
+    channels: &ROWS,
+    lane: 0,
+};
+
 #[test]
 fn session(rt: HostRuntime) -> Result<(), Fail> {
     let ring = Fabric::new(rt.alloc(), 4, &ENDS)?;
-    let rule = Rows { channels: &ROWS };
-    let mut run = Run::open(&ring, 1, &rule)?;
+    let mut run = Run::open(&ring, 1, &RULE)?;
     let packet = Packet {
         source: 0,
         destination: 2,
@@ -80,8 +61,7 @@ fn session(rt: HostRuntime) -> Result<(), Fail> {
 #[test]
 fn numbers_past_every_limit(rt: HostRuntime) -> Result<(), Fail> {
     let ring = Fabric::new(rt.alloc(), 4, &ENDS)?;
-    let rule = Rows { channels: &ROWS };
-    let mut run = Run::open(&ring, 1, &rule)?;
+    let mut run = Run::open(&ring, 1, &RULE)?;
     for number in [4, 255, 256, 4_294_967_295] {
         assert_eq!(rt;
             run.post(number, 0, 1),
@@ -118,14 +98,13 @@ fn wild_rule(rt: HostRuntime) -> Result<(), Fail> {
 #[test]
 fn lists_of_requests(rt: HostRuntime) -> Result<(), Fail> {
     let ring = Fabric::new(rt.alloc(), 4, &ENDS)?;
-    let rule = Rows { channels: &ROWS };
     let requests = [
         Request::Make(Call::Post(0, 1, 5)),
         Request::Make(Call::Serve(8, 0)),
         Request::Make(Call::Serve(0, 0)),
     ];
     let mut answers = [Answer::Taken; 4];
-    let run = Run::replay(&ring, 1, &rule, &requests, &mut answers)?;
+    let run = Run::replay(&ring, 1, &RULE, &requests, &mut answers)?;
     assert_eq!(rt;
         run.look(0, 0),
         Ok(Some(Packet {
@@ -143,14 +122,6 @@ fn lists_of_requests(rt: HostRuntime) -> Result<(), Fail> {
     Ok(())
 }
 
-// The fault of a replay, if there is one.
-fn fault(replayed: Result<Run<'_, Wild>, CallFault>) -> Option<CallFault> {
-    match replayed {
-        Ok(_) => None,
-        Err(fault) => Some(fault),
-    }
-}
-
 #[test]
 fn refused_replays(rt: HostRuntime) -> Result<(), Fail> {
     let ring = Fabric::new(rt.alloc(), 4, &ENDS)?;
@@ -158,15 +129,15 @@ fn refused_replays(rt: HostRuntime) -> Result<(), Fail> {
     let mut answers = [Answer::Taken; 1];
     let requests = [Request::Look(0, 0); 2];
     assert_eq!(rt;
-        fault(Run::replay(&ring, 1, &rule, &requests, &mut answers)),
+        Run::replay(&ring, 1, &rule, &requests, &mut answers).err(),
         Some(CallFault::ShortList)
     );
     assert_eq!(rt;
-        fault(Run::replay(&ring, 9, &rule, &requests, &mut answers)),
+        Run::replay(&ring, 9, &rule, &requests, &mut answers).err(),
         Some(CallFault::LaneCount)
     );
     assert_eq!(rt;
-        fault(Run::replay(&ring, 0, &rule, &[], &mut answers)),
+        Run::replay(&ring, 0, &rule, &[], &mut answers).err(),
         Some(CallFault::LaneCount)
     );
     assert_eq!(rt; answers[0], Answer::Taken);

@@ -17,6 +17,7 @@ impl Fabric {
     }
 
     // All pairs, by source, then destination.
+    #[tactic(auto, using(crate::proofs::Pairing::all_left))]
     pub fn pairs(&self) -> Pairs
         ensures size { result.switches ≡ (net self.now).switches }
         ensures all { left result ≡ pairs_of (net self.now).switches }
@@ -35,6 +36,7 @@ impl Iterator for Pairs {
 
     ghost remaining = { item_count left };
 
+    #[tactic(auto, using(crate::proofs::Pairing::pairs_more))]
     fn next(&mut self) -> Option<Pair> {
         let width = self.switches as u16;
         for cell in self.cell..width * width {

@@ -1,89 +1,40 @@
-ghost use Rattle.std.specs.Prelude.{◌≡◌, ℕ, false};
+ghost use Rattle.std.specs.Prelude.{◌≡◌, ℕ, ◌==◌};
 ghost use Rattle.model.specs.Net.{count};
-ghost use Rattle.model.specs.Routes.{hop, route, steps, has, depends};
+ghost use Rattle.model.specs.Routes.{route, steps, depends};
 ghost use Rattle.fabric.specs.Of.{net};
-ghost use Rattle.lane_check.specs.Walks.{Stepped};
-ghost use Rattle.lane_check.specs.Cells.{edge_at, Adds, of_lane, taken_from};
+ghost use Rattle.routing.specs.Dependencies.{leads};
+ghost use Rattle.lane_check.specs.Notes.{Noted};
 
-use crate::lane::Dependencies;
-use crate::walk::{Step, take_step};
-use fabric::Fabric;
-use routing::RouteRule;
+use fabric::{Fabric, Pair};
+use routing::{Dependencies, RouteRule, Steps};
 
-// The step directly after this one on the route to a destination.
-fn step_after<R: RouteRule>(fabric: &Fabric, rule: &R, last: Step, destination: u8) -> Option<Step>
-    ensures { Stepped (net fabric.now) (hop (net fabric.now) (R.maps rule.now) last.to destination) result }
+// Adds the dependencies of the route of a pair.
+fn note_route<R: RouteRule>(fabric: &Fabric, rule: &R, pair: Pair, lane: &mut Dependencies)
+    requires { lane.old.channels ≡ count (net fabric.now) }
+    ensures { Noted (steps (route (net fabric.now) (R.maps rule.now) pair.source pair.destination)) lane.old lane.new }
 {
-    take_step(fabric, rule, last.to, destination)
-}
-
-// Adds the dependencies of the route of one pair.
-fn note_route<R: RouteRule>(
-    fabric: &Fabric,
-    rule: &R,
-    cells: &mut [bool; 16384],
-    source: u8,
-    destination: u8,
-)
-    ensures { Adds (has (steps (route (net fabric.now) (R.maps rule.now) source destination))) cells.old cells.new }
-{
-    let Some(first) = take_step(fabric, rule, source, destination) else {
-        return;
-    };
-    let mut last = first;
-    for _k in 0..fabric.switch_count() - 2 {
-        let Some(next) = step_after(fabric, rule, last, destination) else {
-            return;
-        };
-        cells[last.channel as usize * 128 + next.channel as usize] = true;
-        last = next;
+    for step in Steps::of(fabric, rule, pair) {
+        lane.add(step);
     }
 }
 
-// Whether two switches are a pair of the lane.
-fn is_of_lane<R: RouteRule>(rule: &R, lane: u32, source: u8, destination: u8) -> bool
-    ensures { result ≡ of_lane (R.maps rule.now) lane source destination }
+// Whether a pair is of the lane.
+fn is_of_lane<R: RouteRule>(rule: &R, lane: u32, pair: Pair) -> bool
+    ensures { result ≡ ((R.maps rule.now).lane pair.source pair.destination == lane) }
 {
-    source != destination && rule.lane(source, destination) as u32 == lane
-}
-
-// Adds the dependencies of the pairs of a lane from one source.
-fn note_source<R: RouteRule>(
-    fabric: &Fabric,
-    rule: &R,
-    cells: &mut [bool; 16384],
-    lane: u32,
-    source: u8,
-)
-    ensures { Adds (λ b c. taken_from (net fabric.now) (R.maps rule.now) lane b c source) cells.old cells.new }
-{
-    for destination in 0..fabric.switch_count() {
-        if is_of_lane(rule, lane, source, destination as u8) {
-            note_route(fabric, rule, cells, source, destination as u8);
-        }
-    }
-}
-
-// The cells of a lane.
-fn cells_of<R: RouteRule>(fabric: &Fabric, rule: &R, lane: u32) -> [bool; 16384]
-    ensures each { (b c : ℕ) → edge_at result b c ≡ depends (net fabric.now) (R.maps rule.now) lane b c }
-    ensures loopless { (c : ℕ) → edge_at result c c ≡ false }
-{
-    let mut cells = [false; 16384];
-    for source in 0..fabric.switch_count() {
-        note_source(fabric, rule, &mut cells, lane, source as u8);
-    }
-    cells
+    u32::from(rule.lane(pair.source, pair.destination)) == lane
 }
 
 // The dependencies of a lane. Nothing depends in a lane that has no pairs.
 pub fn dependencies<R: RouteRule>(fabric: &Fabric, rule: &R, lane: u32) -> Dependencies
     ensures size { result.channels ≡ count (net fabric.now) }
-    ensures each { (b c : ℕ) → edge_at result.cells b c ≡ depends (net fabric.now) (R.maps rule.now) lane b c }
+    ensures each { (b c : ℕ) → leads result b c ≡ depends (net fabric.now) (R.maps rule.now) lane b c }
 {
-    let cells = cells_of(fabric, rule, lane);
-    Dependencies {
-        channels: fabric.channel_count() as u8,
-        cells,
+    let mut found = Dependencies::none(fabric);
+    for pair in fabric.pairs() {
+        if is_of_lane(rule, lane, pair) {
+            note_route(fabric, rule, pair, &mut found);
+        }
     }
+    found
 }

@@ -2,87 +2,60 @@ ghost use Rattle.std.specs.Prelude.{◌≡◌, ◌+◌, ◌*◌, ◌≤◌, ◌+
 ghost use Rattle.model.specs.Net.{count};
 ghost use Rattle.model.specs.Verdicts.{verdict, fine};
 ghost use Rattle.fabric.specs.Of.{net};
-ghost use Rattle.lane_check.specs.Checks.{setup_of, orders};
+ghost use Rattle.lane_check.specs.Checks.{model_of, orders};
 ghost use Rattle.lane_check.specs.Answers.{Paired, CyclicOr, LanesSettled};
 
 use crate::lane::cycle::write_cycle;
 use crate::lane::noting::dependencies;
 use crate::lane::order::sort;
-use fabric::Fabric;
-use routing::RouteRule;
+use crate::setup::Setup;
+use routing::{RouteRule, RuleFault};
 
-// A lane with a cycle, and the cycle's length.
-#[derive(Clone, Copy)]
-pub(crate) struct CyclicLane {
-    pub(crate) lane: u8,
-    pub(crate) length: u8,
+// Copies a list to the place `from` on.
+fn put(list: &[u8], order: &mut [u8], from: usize)
+    requires { from + length list.now ≤ length order.old }
+    ensures { order.new ≡ take from order.old ++ (list.now ++ drop (from + length list.now) order.old) }
+{
+    order[from..from + list.len()].copy_from_slice(list);
 }
 
-// The lowest lane with a cycle; the cycle is written to the front of the list.
-pub(crate) fn first_cycle<R: RouteRule>(
-    fabric: &Fabric,
-    lanes: u32,
-    rule: &R,
-    cycle: &mut [u8],
-) -> Option<CyclicLane>
-    requires few { lanes ≤ 8 }
-    requires room { count (net fabric.now) ≤ length cycle.old }
-    requires paired { Paired (setup_of fabric.now lanes (R.maps rule.now)) }
-    ensures { CyclicOr (setup_of fabric.now lanes (R.maps rule.now)) cycle.old cycle.new result }
-{
-    for lane in 0..lanes {
-        let found = dependencies(fabric, rule, lane);
-        match sort(&found) {
-            Some(_) => {}
-            None => return Some(CyclicLane {
-                lane: lane as u8,
-                length: write_cycle(&found, cycle),
-            }),
+impl<R: RouteRule> Setup<'_, '_, R> {
+    // Whether no lane has a cycle. That of the lowest lane with one is written to the front of the list.
+    fn judge_lanes(&self, cycle: &mut [u8]) -> Result<(), RuleFault>
+        requires room { count (net self.now.fabric.now) ≤ length cycle.old }
+        requires paired { Paired (model_of R.maps self.now) }
+        ensures { CyclicOr (model_of R.maps self.now) cycle.old cycle.new result }
+    {
+        for lane in 0..self.lanes.get() {
+            let found = dependencies(self.fabric, self.rule, lane);
+            if sort(&found).is_none() {
+                return Err(RuleFault::Cyclic(lane as u8, write_cycle(&found, cycle)));
+            }
+        }
+        Ok(())
+    }
+
+    // Writes the orders of the lanes of a setup that is fine into the front of the list.
+    fn write_orders(&self, order: &mut [u8])
+        requires room { self.now.lanes.lanes * count (net self.now.fabric.now) ≤ length order.old }
+        requires fine { verdict (model_of R.maps self.now) ≡ fine }
+        ensures { order.new ≡ orders (model_of R.maps self.now) ++ drop (self.now.lanes.lanes * count (net self.now.fabric.now)) order.old }
+    {
+        let channels = self.fabric.channel_count() as usize;
+        for lane in 0..self.lanes.get() {
+            let list = sort(&dependencies(self.fabric, self.rule, lane)).unwrap();
+            put(&list, order, lane as usize * channels);
         }
     }
-    None
-}
 
-// Copies the first `size` bytes of a list to the place `from` on.
-fn put(list: &[u8; 128], size: usize, order: &mut [u8], from: usize)
-    requires { (size ≤ 128) × (from + size ≤ length order.old) }
-    ensures { order.new ≡ take from order.old ++ (take size list.now ++ drop (from + size) order.old) }
-{
-    order[from..from + size].copy_from_slice(&list[0..size]);
-}
-
-// Writes the orders of the lanes of a setup that is fine into the front of the list.
-pub(crate) fn write_orders<R: RouteRule>(fabric: &Fabric, lanes: u32, rule: &R, order: &mut [u8])
-    requires few { lanes ≤ 8 }
-    requires room { lanes * count (net fabric.now) ≤ length order.old }
-    requires fine { verdict (setup_of fabric.now lanes (R.maps rule.now)) ≡ fine }
-    ensures { order.new ≡ orders (setup_of fabric.now lanes (R.maps rule.now)) ++ drop (lanes * count (net fabric.now)) order.old }
-{
-    let channels = fabric.channel_count() as usize;
-    for lane in 0..lanes {
-        let found = dependencies(fabric, rule, lane);
-        if let Some(list) = sort(&found) {
-            put(&list, channels, order, lane as usize * channels);
-        }
+    // Once no pair is at fault: whether no lane has a cycle. A cycle is written, or else the orders of all lanes are.
+    pub(crate) fn settle_lanes(&self, order: &mut [u8], cycle: &mut [u8]) -> Result<(), RuleFault>
+        requires room { (self.now.lanes.lanes * count (net self.now.fabric.now) ≤ length order.old) × (count (net self.now.fabric.now) ≤ length cycle.old) }
+        requires paired { Paired (model_of R.maps self.now) }
+        ensures { LanesSettled (model_of R.maps self.now) order.old order.new cycle.old cycle.new result }
+    {
+        self.judge_lanes(cycle)?;
+        self.write_orders(order);
+        Ok(())
     }
-}
-
-// Once no pair is at fault: the lowest lane with a cycle, which is written, or else the orders of all lanes are.
-pub(crate) fn settle_lanes<R: RouteRule>(
-    fabric: &Fabric,
-    lanes: u32,
-    rule: &R,
-    order: &mut [u8],
-    cycle: &mut [u8],
-) -> Option<CyclicLane>
-    requires few { lanes ≤ 8 }
-    requires room { (lanes * count (net fabric.now) ≤ length order.old) × (count (net fabric.now) ≤ length cycle.old) }
-    requires paired { Paired (setup_of fabric.now lanes (R.maps rule.now)) }
-    ensures { LanesSettled (setup_of fabric.now lanes (R.maps rule.now)) order.old order.new cycle.old cycle.new result }
-{
-    if let Some(found) = first_cycle(fabric, lanes, rule, cycle) {
-        return Some(found);
-    }
-    write_orders(fabric, lanes, rule, order);
-    None
 }

@@ -9,7 +9,8 @@ use fabric::Fabric;
 use routing::RouteRule;
 use std::alloc::Global;
 
-fn rewritten(heap: Global, bytes: &[u8], out: &mut [u8]) -> Result<usize, FileFault>
+// Decodes a file and writes it again: the same bytes.
+pub fn recode(heap: Global, bytes: &[u8], out: &mut [u8]) -> Result<usize, FileFault>
     ensures { Recodes bytes.now out.old out.new result }
 {
     let plan = decode(heap, bytes)?;
@@ -17,13 +18,7 @@ fn rewritten(heap: Global, bytes: &[u8], out: &mut [u8]) -> Result<usize, FileFa
     Ok(length)
 }
 
-// Decodes a file and writes it again: the same bytes.
-pub fn recode(heap: Global, bytes: &[u8], out: &mut [u8]) -> Result<usize, FileFault>
-    ensures { Recodes bytes.now out.old out.new result }
-{
-    rewritten(heap, bytes, out)
-}
-
+// Its proof needs an answer, so it stands apart: a wrong call in `write_and_decode` is refused in the source.
 fn decoded<R: RouteRule>(
     heap: Global,
     fabric: &Fabric,

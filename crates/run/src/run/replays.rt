@@ -1,6 +1,6 @@
 ghost use Rattle.std.specs.Prelude.{◌≤◌, map, length};
-ghost use Rattle.run.specs.Words.{request_of, answer_reply};
-ghost use Rattle.run.specs.Runs.{Keeps, KeepsAll, Replayed};
+ghost use Rattle.run.specs.Words.{request_of};
+ghost use Rattle.run.specs.Runs.{KeepsAll, Replayed};
 
 use crate::run::Run;
 use crate::words::{Answer, Request};
@@ -8,20 +8,14 @@ use fabric::{CallFault, Fabric};
 use routing::RouteRule;
 
 impl<'a, R: RouteRule> Run<'a, R> {
-    // Makes one request, and writes down its answer.
-    fn note(&mut self, request: Request, written: &mut Answer)
-        ensures { Keeps R.maps self.old (request_of request) self.new (answer_reply written.new) }
-    {
-        *written = self.answer(request);
-    }
-
     // Makes all requests in order, and writes their answers to the front of the list.
     fn answer_all(&mut self, requests: &[Request], answers: &mut [Answer])
         requires { length requests.now ≤ length answers.old }
         ensures { KeepsAll R.maps self.old (map request_of requests.now) self.new answers.old answers.new }
     {
-        for i in 0..requests.len() {
-            self.note(requests[i], &mut answers[i]);
+        // By number, since a proof knows nothing of what is written through a zip with `iter_mut`.
+        for (i, request) in requests.iter().enumerate() {
+            answers[i] = self.answer(*request);
         }
     }
 

@@ -1,8 +1,25 @@
-use Rattle.std.proofs.Common.{◌≡◌, ℕ, ◌+◌, List, sym, ◌∙◌, arith, below_more}
+use Rattle.std.proofs.Common.{◌≡◌, ◌≢◌, ℕ, ◌+◌, ◌<◌, List, sym, ap, ◌∙◌, arith, below_more}
 use Rattle.std.proofs.lemmas.Result.{err_from_is_err_and}
+use Rattle.planfile.specs.Contents.{Formed}
+use Rattle.planfile.specs.Faults.{file_refusal, part_number}
+use Rattle.planfile.specs.Judges.{Faulty}
 use Rattle.planfile.specs.Refused.{Tagged, form, tag, tag_at, tag_of}
-use Rattle.planfile.proofs.Faulty.{faulty, tag_right, tag_wrong}
+use Rattle.planfile.specs.declared.fault.FileFault.{FileFault}
+use Rattle.planfile.specs.declared.fault.FileFault.TheVariants.{Tag}
+use Rattle.planfile.specs.declared.part.Part.{Part}
+use Rattle.planfile.specs.declared.part.Part.TheVariants.{Link, Hops, Lane}
+use Rattle.planfile.proofs.Faulty.{faulty}
 use Rattle.planfile.proofs.judge.open.Goals as goal
+
+-- a part with another tag, after parts that have theirs
+wrong_tag : (bs : List ℕ) (part : Part) (f : FileFault) → f ≡ Tag part → Formed bs → Tagged bs (part_number part)
+    → tag_at bs (part_number part) ≢ tag_of (part_number part) → Faulty bs f
+wrong_tag bs part f e h t ne = faulty bs f _ (ap file_refusal e) (tag (part_number part) h (few part) t ne)
+  where
+    few : (part : Part) → part_number part < 3
+    few Link = omega arith
+    few Hops = omega arith
+    few Lane = omega arith
 
 no_tags : (bs : List ℕ) → Tagged bs 0
 no_tags bs e h = absurd (omega arith)
@@ -16,34 +33,29 @@ returns-in_err-contents c =
     let h = c.in_err-contents.ensures in
     rw (p.1, p.2) (faulty c.args.bytes.now c.in_err-contents.field-0.0 _ h.0 (form h.1))
 
-pub returns-then-ne : goal.returns-then-ne
-returns-then-ne c =
+pub returns-in_err-check_tag : goal.returns-in_err-check_tag
+returns-in_err-check_tag c =
     let bs : List ℕ = c.args.bytes.now in
+    let p = err_from_is_err_and c.from_residual-in_err-check_tag.result c.from_residual-in_err-check_tag.ensures.1 in
     let h = c.in_ok-contents.ensures in
-    tag 0 h.0 (omega arith) (no_tags bs) (λ q. tag_wrong _ _ _ c.ne.ensures c.if-ne.true (h.1.link.tag ∙ q))
+    let e = c.in_err-check_tag.ensures.err in
+    rw (p.1, p.2) (wrong_tag bs Link _ e.0 h.0 (no_tags bs) (λ q. e.1 (h.1.link.tag ∙ q)))
 
-pub returns-then-ne-2 : goal.returns-then-ne-2
-returns-then-ne-2 c =
+pub returns-in_err-check_tag-2 : goal.returns-in_err-check_tag-2
+returns-in_err-check_tag-2 c =
     let bs : List ℕ = c.args.bytes.now in
+    let p = err_from_is_err_and c.from_residual-in_err-check_tag-2.result c.from_residual-in_err-check_tag-2.ensures.1 in
     let h = c.in_ok-contents.ensures in
-    let t0 : tag_at bs 0 ≡ tag_of 0 = sym h.1.link.tag ∙ tag_right _ _ _ c.ne.ensures c.if-ne.false in
-    tag 1 h.0 (omega arith) (more_tags bs 0 (no_tags bs) t0)
-    (λ q. tag_wrong _ _ _ c.ne-2.ensures c.if-ne-2.true (h.1.hops.tag ∙ q))
+    let t0 : tag_at bs 0 ≡ tag_of 0 = sym h.1.link.tag ∙ c.in_ok-check_tag.ensures.ok in
+    let e = c.in_err-check_tag-2.ensures.err in
+    rw (p.1, p.2) (wrong_tag bs Hops _ e.0 h.0 (more_tags bs 0 (no_tags bs) t0) (λ q. e.1 (h.1.hops.tag ∙ q)))
 
-pub returns-then-ne-3 : goal.returns-then-ne-3
-returns-then-ne-3 c =
+pub returns-in_err-check_tag-3 : goal.returns-in_err-check_tag-3
+returns-in_err-check_tag-3 c =
     let bs : List ℕ = c.args.bytes.now in
+    let p = err_from_is_err_and c.from_residual-in_err-check_tag-3.result c.from_residual-in_err-check_tag-3.ensures.1 in
     let h = c.in_ok-contents.ensures in
-    let t0 : tag_at bs 0 ≡ tag_of 0 = sym h.1.link.tag ∙ tag_right _ _ _ c.ne.ensures c.if-ne.false in
-    let t1 : tag_at bs 1 ≡ tag_of 1 = sym h.1.hops.tag ∙ tag_right _ _ _ c.ne-2.ensures c.if-ne-2.false in
-    tag 2 h.0 (omega arith) (more_tags bs 1 (more_tags bs 0 (no_tags bs) t0) t1)
-    (λ q. tag_wrong _ _ _ c.ne-3.ensures c.if-ne-3.true (h.1.lane.tag ∙ q))
-
-pub returns : goal.returns
-returns c =
-    let bs : List ℕ = c.args.bytes.now in
-    let h = c.in_ok-contents.ensures in
-    let t0 : tag_at bs 0 ≡ tag_of 0 = sym h.1.link.tag ∙ tag_right _ _ _ c.ne.ensures c.if-ne.false in
-    let t1 : tag_at bs 1 ≡ tag_of 1 = sym h.1.hops.tag ∙ tag_right _ _ _ c.ne-2.ensures c.if-ne-2.false in
-    let t2 : tag_at bs 2 ≡ tag_of 2 = sym h.1.lane.tag ∙ tag_right _ _ _ c.ne-3.ensures c.if-ne-3.false in
-    (record { formed = h.0; tagged = more_tags bs 2 (more_tags bs 1 (more_tags bs 0 (no_tags bs) t0) t1) t2 }, h.1)
+    let t0 : tag_at bs 0 ≡ tag_of 0 = sym h.1.link.tag ∙ c.in_ok-check_tag.ensures.ok in
+    let t1 : tag_at bs 1 ≡ tag_of 1 = sym h.1.hops.tag ∙ c.in_ok-check_tag-2.ensures.ok in
+    let e = c.in_err-check_tag-3.ensures.err in
+    rw (p.1, p.2) (wrong_tag bs Lane _ e.0 h.0 (more_tags bs 1 (more_tags bs 0 (no_tags bs) t0) t1) (λ q. e.1 (h.1.lane.tag ∙ q)))

@@ -1,13 +1,15 @@
-use Rattle.std.proofs.Common.{sym, ◌∙◌, arith}
-use Rattle.std.proofs.lemmas.List.{ext_get_or, length-map, get_or-map}
-use Rattle.fabric.specs.Channels.{starts}
-use Rattle.fabric.specs.Of.{net}
-use Rattle.model.specs.Net.{Net, Channel, nowhere}
+use Rattle.std.proofs.Common.{List, length, ap, arith}
+use Rattle.std.proofs.lemmas.List.{length-map, take_all}
+use Rattle.std.proofs.lemmas.Simd.{map-map}
+use Rattle.fabric.specs.Channels.{plain}
+use Rattle.fabric.specs.declared.channel.Channel.{Channel as CodeChannel}
+use Rattle.model.specs.Net.{Channel}
 use Rattle.planfile.proofs.links.write_ends.Goals as goal
 
 pub returns : goal.returns
 returns c =
-    let n : Net = net c.args.fabric.now in
-    let l = length-map n.channels (λ (x : Channel). x.start) in
-    ext_get_or 0 c.loop-channel.out (starts n.channels) (omega (arith, l))
-    (λ k h. c.loop-channel.invariant k (omega arith) ∙ sym (get_or-map (λ (x : Channel). x.start) n.channels k nowhere 0 (omega arith)))
+    let cs : List CodeChannel = c.channels-channel-items.result.now in
+    let same = c.channels-channel-items.ensures.is in
+    let out = take_all c.loop-at.at c.loop-at.out (omega (arith, length-map cs plain, ap length same)) in
+    let all = take_all c.loop-at.at cs (omega arith) in
+    cc (map-map (λ (x : Channel). x.start) plain cs)

@@ -1,10 +1,13 @@
+use Rattle.std.proofs.Common.{◌≡◌}
 use Rattle.model.specs.Planner.{routes_refusal}
+use Rattle.model.specs.Routes.{pairs_of}
 use Rattle.fabric.specs.Of.{net}
+use Rattle.fabric.specs.Pairs.{left}
 use Rattle.planner.specs.Drafts.{rule_of}
-use Rattle.planner.proofs.Refusing.{Left, routeless, route_firsts}
 use Rattle.planner.proofs.judging.judge_routes.Given as goal
 
-abbrev pub invariant-loop-cell : goal.invariant-loop-cell
-invariant-loop-cell l =
-    Left (routeless (net l.fabric) (rule_of l.draft)) (routes_refusal (net l.fabric) (rule_of l.draft))
-    (route_firsts (net l.fabric) (rule_of l.draft)) l.switches l.cell
+abbrev pub invariant-loop-pair : goal.invariant-loop-pair
+invariant-loop-pair l = record {
+  size : l.pair-iterator.switches ≡ (net l.draft.fabric.now).switches;
+  left : routes_refusal (net l.draft.fabric.now) (rule_of l.draft) (pairs_of (net l.draft.fabric.now).switches) ≡ routes_refusal (net l.draft.fabric.now) (rule_of l.draft) (left l.pair-iterator);
+}

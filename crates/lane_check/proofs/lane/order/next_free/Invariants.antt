@@ -1,9 +1,10 @@
-use Rattle.std.proofs.Common.{◌≡◌, ℕ, ◌<◌, true}
-use Rattle.lane_check.specs.Cells.{edge_at}
-use Rattle.lane_check.specs.Orders.{marked, Blocked, Watched}
+use Rattle.std.proofs.Common.{◌≡◌}
+use Rattle.lane_check.specs.Orders.{waits, HeldBelow, Watched}
 use Rattle.lane_check.proofs.lane.order.next_free.Given as goal
 
 abbrev pub invariant-loop-channel : goal.invariant-loop-channel
-invariant-loop-channel l =
-    Watched (edge_at l.lane.cells) (marked l.waits) l.watch
-    × ((x : ℕ) → x < l.channel → marked l.waits x ≡ true → Blocked (edge_at l.lane.cells) (marked l.waits) l.lane.channels x)
+invariant-loop-channel g l = record {
+  watched : Watched (g.G.Graph.edge l.lane) l.watch;
+  same : waits l.watch ≡ waits l.initial.watch;
+  held : HeldBelow (g.G.Graph.edge l.lane) (waits l.initial.watch) (g.G.Graph.nodes l.lane) l.channel;
+}

@@ -1,5 +1,9 @@
-use Rattle.run.proofs.Keeping.{shows_sender}
+use Rattle.std.proofs.Common.{refl, rules}
+use Rattle.run.specs.Sites.{sender_shown}
+use Rattle.run.specs.Runs.{setup_of}
+use Rattle.run.proofs.Keeping.{shows}
 use Rattle.run.proofs.run.Run.look_sender.Goals as goal
 
 pub returns : goal.returns
-returns g c = shows_sender _ _ _ _ _ c.held_by_sender.ensures
+returns g c =
+    shows _ _ _ (λ s. sender_shown (setup_of g.R.RouteRule.maps c.args.self.now) s c.args.switch c.args.lane) _ (λ _. refl) (search rules)

@@ -1,9 +1,0 @@
-use Rattle.std.proofs.Common.{◌≡◌, length}
-use Rattle.model.specs.Planner.{byte_of, chosen, nearer}
-use Rattle.fabric.specs.Of.{net}
-use Rattle.planner.proofs.Squares.{Filled}
-use Rattle.planner.proofs.choice.shortest.Given as goal
-
-abbrev pub invariant-loop-cell : goal.invariant-loop-cell
-invariant-loop-cell l =
-    Filled l.switches (λ u d. byte_of (chosen (nearer (net l.fabric) u d))) l.cell l.cells × (length l.cells ≡ 1024)
