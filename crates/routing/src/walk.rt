@@ -1,11 +1,12 @@
 ghost use Rattle.std.specs.Prelude.{◌≡◌, ◌<◌, IfSome};
 ghost use Rattle.std.specs.Option.{option_map};
-ghost use Rattle.model.specs.Routes.{route_ends, hop};
+ghost use Rattle.model.specs.Routes.{hop};
 ghost use Rattle.fabric.specs.Of.{net};
 ghost use Rattle.routing.specs.Walks.{ending_of, channel_of, pair_ends, Leads};
 
+use crate::route::Route;
 use crate::rule::RouteRule;
-use fabric::{Fabric, Pair};
+use fabric::Fabric;
 
 // One step of a route: the channel that it takes, and the switch at which that ends.
 #[derive(Clone, Copy, PartialEq, Eq, Debug)]
@@ -41,27 +42,6 @@ pub fn next_hop<R: RouteRule>(fabric: &Fabric, rule: &R, switch: u8, destination
     })
 }
 
-// Takes the steps of a route one after the other, at most one fewer than there are switches.
-fn walk<R: RouteRule>(fabric: &Fabric, rule: &R, pair: Pair) -> Ending
-    ensures { ending_of result ≡ route_ends (net fabric.now) (R.maps rule.now) pair.source pair.destination }
-{
-    let mut switch = pair.source;
-    for _taken in 0..fabric.switch_count() - 1 {
-        if switch == pair.destination {
-            return Ending::Arrives;
-        }
-        let Some(hop) = next_hop(fabric, rule, switch, pair.destination) else {
-            return Ending::Stops(switch);
-        };
-        switch = hop.to;
-    }
-    if switch == pair.destination {
-        Ending::Arrives
-    } else {
-        Ending::Tires
-    }
-}
-
 // How the route of a pair ends; none where a switch is missing or both are the same.
 pub fn route_ending<R: RouteRule>(
     fabric: &Fabric,
@@ -72,5 +52,5 @@ pub fn route_ending<R: RouteRule>(
     ensures { option_map ending_of result ≡ pair_ends (net fabric.now) (R.maps rule.now) source destination }
 {
     let pair = fabric.pair(source, destination)?;
-    Some(walk(fabric, rule, pair))
+    Some(Route::of(fabric, rule, pair).ending())
 }
