@@ -2,7 +2,7 @@
 use Rattle.std.specs.Prelude.{◌≡◌, ℕ, ◌<◌, List, [], ◌∷◌, Some, None, Option, ◌≢◌}
 use Rattle.model.specs.Net.{Net, count}
 use Rattle.model.specs.Rules.{Rule}
-use Rattle.model.specs.Routes.{Edge, walk, steps}
+use Rattle.model.specs.Routes.{Edge, Ending, walk, ending, steps}
 use Rattle.fabric.specs.Of.{net}
 use Rattle.routing.specs.Walks.{Leads}
 use Rattle.routing.specs.declared.route.Route.{Route}
@@ -14,12 +14,16 @@ use Rattle.routing.specs.declared.walk.Hop.{Hop}
 abbrev pub way : {R : Type 0} → (R → Rule) → Route R → List ℕ
 way maps r = walk (net r.fabric.now) (maps r.rule.now) r.hops r.switch r.destination
 
+-- How the route ends, from where it has come to.
+abbrev pub ends_as : {R : Type 0} → (R → Rule) → Route R → Ending
+ends_as maps r = ending (net r.fabric.now) (maps r.rule.now) r.hops r.switch r.destination
+
 -- The route goes on over the first of them, which leaves the switch that it has come to; it ends where none is left.
 abbrev pub NextHop : {R : Type 0} → (R → Rule) → Route R → Option Hop → Route R → Type 0
-NextHop maps was None is = (is.fabric.now ≡ was.fabric.now) × (way maps was ≡ []) × (way maps is ≡ [])
+NextHop maps was None is = (is.fabric.now ≡ was.fabric.now) × (way maps was ≡ []) × (way maps is ≡ []) × (ends_as maps is ≡ ends_as maps was)
 NextHop maps was (Some hop) is =
     (is.fabric.now ≡ was.fabric.now) × (way maps was ≡ hop.channel ∷ way maps is) × Leads (net was.fabric.now) was.switch hop
-    × (hop.channel < 128) × (is.switch ≡ hop.to)
+    × (hop.channel < 128) × (is.switch ≡ hop.to) × (ends_as maps is ≡ ends_as maps was)
 
 -- The step as the model's.
 abbrev pub edge_of : Step → Edge

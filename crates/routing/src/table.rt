@@ -36,7 +36,7 @@ impl RouteRule for Table {
 
     fn channel(&self, switch: u8, destination: u8) -> Option<u8> {
         let channel = cell(&self.channels, self.switches, switch, destination);
-        if channel < NONE { Some(channel) } else { None }
+        (channel < NONE).then_some(channel)
     }
 
     fn lane(&self, source: u8, destination: u8) -> u8 {

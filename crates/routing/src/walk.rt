@@ -1,11 +1,12 @@
-ghost use Rattle.std.specs.Prelude.{◌≡◌, ◌<◌, IfSome, Some};
+ghost use Rattle.std.specs.Prelude.{◌≡◌, ◌<◌, IfSome};
 ghost use Rattle.std.specs.Option.{option_map};
-ghost use Rattle.model.specs.Routes.{route_ends, fit, hop};
+ghost use Rattle.model.specs.Routes.{hop};
 ghost use Rattle.fabric.specs.Of.{net};
 ghost use Rattle.routing.specs.Walks.{ending_of, channel_of, pair_ends, Leads};
 
+use crate::route::Route;
 use crate::rule::RouteRule;
-use fabric::{Fabric, Pair};
+use fabric::Fabric;
 
 // One step of a route: the channel that it takes, and the switch at which that ends.
 #[derive(Clone, Copy, PartialEq, Eq, Debug)]
@@ -24,22 +25,6 @@ pub enum Ending {
     Tires,
 }
 
-// The step over this channel, if it exists and leaves this switch.
-fn step(fabric: &Fabric, switch: u8, channel: u8) -> Option<Hop>
-    ensures is { option_map channel_of result ≡ fit (net fabric.now) switch (Some channel) }
-    ensures leads { IfSome result (Leads (net fabric.now) switch) }
-    ensures range { IfSome result (λ x. (x.channel < 128) × (x.to < 32)) }
-{
-    let joined = fabric.channel(channel as u32)?;
-    if joined.start != switch {
-        return None;
-    }
-    Some(Hop {
-        channel,
-        to: joined.finish,
-    })
-}
-
 // The step of a route at this switch: over the rule's channel, if it exists and leaves the switch; none at the destination.
 pub fn next_hop<R: RouteRule>(fabric: &Fabric, rule: &R, switch: u8, destination: u8) -> Option<Hop>
     ensures is { option_map channel_of result ≡ hop (net fabric.now) (R.maps rule.now) switch destination }
@@ -50,28 +35,11 @@ pub fn next_hop<R: RouteRule>(fabric: &Fabric, rule: &R, switch: u8, destination
         return None;
     }
     let channel = rule.channel(switch, destination)?;
-    step(fabric, switch, channel)
-}
-
-// Takes the steps of a route one after the other, at most one fewer than there are switches.
-fn walk<R: RouteRule>(fabric: &Fabric, rule: &R, pair: Pair) -> Ending
-    ensures { ending_of result ≡ route_ends (net fabric.now) (R.maps rule.now) pair.source pair.destination }
-{
-    let mut switch = pair.source;
-    for _taken in 0..fabric.switch_count() - 1 {
-        if switch == pair.destination {
-            return Ending::Arrives;
-        }
-        let Some(hop) = next_hop(fabric, rule, switch, pair.destination) else {
-            return Ending::Stops(switch);
-        };
-        switch = hop.to;
-    }
-    if switch == pair.destination {
-        Ending::Arrives
-    } else {
-        Ending::Tires
-    }
+    let joined = fabric.channel(channel as u32)?;
+    (joined.start == switch).then_some(Hop {
+        channel,
+        to: joined.finish,
+    })
 }
 
 // How the route of a pair ends; none where a switch is missing or both are the same.
@@ -84,5 +52,5 @@ pub fn route_ending<R: RouteRule>(
     ensures { option_map ending_of result ≡ pair_ends (net fabric.now) (R.maps rule.now) source destination }
 {
     let pair = fabric.pair(source, destination)?;
-    Some(walk(fabric, rule, pair))
+    Some(Route::of(fabric, rule, pair).ending())
 }

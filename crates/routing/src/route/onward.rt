@@ -1,12 +1,13 @@
 ghost use Rattle.std.specs.Prelude.{◌≡◌, ◌<◌};
 ghost use Rattle.std.specs.Iterator.{item_count};
-ghost use Rattle.model.specs.Routes.{route};
+ghost use Rattle.model.specs.Routes.{route, route_ends};
 ghost use Rattle.fabric.specs.Of.{net};
-ghost use Rattle.routing.specs.Ways.{way, NextHop};
+ghost use Rattle.routing.specs.Walks.{ending_of};
+ghost use Rattle.routing.specs.Ways.{way, ends_as, NextHop};
 
 use crate::route::Route;
 use crate::rule::RouteRule;
-use crate::walk::{Hop, next_hop};
+use crate::walk::{Ending, Hop, next_hop};
 use fabric::{Fabric, Pair};
 
 impl<'f, 'r, R: RouteRule> Route<'f, 'r, R> {
@@ -14,6 +15,7 @@ impl<'f, 'r, R: RouteRule> Route<'f, 'r, R> {
     pub fn of(fabric: &'f Fabric, rule: &'r R, pair: Pair) -> Route<'f, 'r, R>
         ensures on { result.fabric.now ≡ fabric.now }
         ensures all { way R.maps result ≡ route (net fabric.now) (R.maps rule.now) pair.source pair.destination }
+        ensures ends { ends_as R.maps result ≡ route_ends (net fabric.now) (R.maps rule.now) pair.source pair.destination }
     {
         Route {
             fabric,
@@ -21,6 +23,21 @@ impl<'f, 'r, R: RouteRule> Route<'f, 'r, R> {
             switch: pair.source,
             destination: pair.destination,
             hops: fabric.switch_count() - 1,
+        }
+    }
+
+    // Takes the hops that are left, and then says how the route ends.
+    #[tactic(auto, using(crate::proofs::Walking::none_left))]
+    pub(crate) fn ending(mut self) -> Ending
+        ensures { ending_of result ≡ ends_as R.maps self.entry }
+    {
+        while self.next().is_some() {}
+        if self.switch == self.destination {
+            Ending::Arrives
+        } else if self.hops == 0 {
+            Ending::Tires
+        } else {
+            Ending::Stops(self.switch)
         }
     }
 }
