@@ -7,21 +7,13 @@ use Rattle.model.specs.Lists.{up_from, below, all_of, first, keep, is_in, withou
 use Rattle.model.specs.Routes.{Edge, has}
 use Rattle.model.specs.Order.{free, order_from, rest_from, order_of, completes}
 use Rattle.model.proofs.Members.{is_in_cases, is_in_at, is_in_there, any_keep, all_of_any, all_of_fails, all_from, is_in_below, below_in, all_below, different_more, different_parts, different_up_from, first_in, without_one, length-up_from}
+use Rattle.model.proofs.FiledLanes.{keep_keep}
 use Rattle.model.proofs.Ordering.{free_before}
 use Rattle.lane_check.specs.Orders.{waits, blocks, Blocked, Watched, Free, Held, HeldBelow, NextFree}
 use Rattle.lane_check.proofs.Listing.{any_kept}
 
 -- The elements that pass, and the first of them.
 module _ {A : Type 0} where
-  keep_keep : (f h : A → Bool) (xs : List A) → keep h (keep f xs) ≡ keep (λ x. f x && h x) xs
-  keep_keep f h [] = refl
-  keep_keep f h (x ∷ xs) = go (keep_keep f h xs) (f x)
-    where
-      go : keep h (keep f xs) ≡ keep (λ x. f x && h x) xs → (b : Bool)
-          → keep h (cond b (x ∷ keep f xs) (keep f xs)) ≡ cond (b && h x) (x ∷ keep (λ x. f x && h x) xs) (keep (λ x. f x && h x) xs)
-      go ih true = ap (λ (z : List A). cond (h x) (x ∷ z) z) ih
-      go ih false = ih
-
   keep_same : (f h : A → Bool) (xs : List A) → ((x : A) → f x ≡ h x) → keep f xs ≡ keep h xs
   keep_same f h [] e = refl
   keep_same f h (x ∷ xs) e =
@@ -249,7 +241,7 @@ module _ (n : ℕ) (e : ℕ → ℕ → Bool) (few : n ≤ 128) where
         less : keep (waits (set watch' c None)) (below n) ≡ without c (keep (waits watch) (below n))
         less =
             keep_same (waits (set watch' c None)) (λ x. waits watch x && not (eqb c x)) (below n) fewer
-            ∙ sym (keep_keep (waits watch) (λ x. not (eqb c x)) (below n))
+            ∙ sym (keep_keep (λ x. not (eqb c x)) (waits watch) (below n))
 
     pub turned_all : k ≡ n → (es : List Edge) → ((b c : ℕ) → e b c ≡ has es b c) → (completes n es ≡ true) × (list ≡ order_of n es)
     turned_all q es same =

@@ -75,20 +75,13 @@ pub fn showing<'a>(
             if lane >= accepted.lanes as u32 {
                 return Err(CallFault::MissingNumber);
             }
-            let from = lane as usize * accepted.channels as usize;
-            let to = from + accepted.channels as usize;
-            if order.len() < to {
-                return Err(CallFault::ShortList);
-            }
-            Ok(&order[from..to])
+            let channels = accepted.channels as usize;
+            let from = lane as usize * channels;
+            order.get(from..from + channels).ok_or(CallFault::ShortList)
         }
         Err(RuleFault::Cyclic(_, length)) => {
-            let length = *length as usize;
-            if cycle.len() < length {
-                return Err(CallFault::ShortList);
-            }
-            Ok(&cycle[0..length])
+            cycle.get(..*length as usize).ok_or(CallFault::ShortList)
         }
-        Err(_) => Ok(&cycle[0..0]),
+        Err(_) => Ok(&cycle[..0]),
     }
 }

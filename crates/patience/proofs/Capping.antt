@@ -1,14 +1,11 @@
 -- Sums, products and largest numbers, as far as 32 bits tell them.
-use Rattle.std.proofs.Common.{◌≡◌, ℕ, zero, suc, ◌+◌, ◌<◌, ◌≤◌, max, Bool, true, false, cond, ltb, ◌⊎◌, List, [], ◌∷◌, sym, refl, ap, ◌∙◌, subst, inl, inr, suc-mul, zero-mul, add-one, arith}
-use Rattle.std.proofs.lemmas.Bool.{cases_lt, cases_eq, both_ways, and_parts, ltb-true, cond-true, cond-false}
+use Rattle.std.proofs.Common.{◌≡◌, ℕ, zero, suc, ◌+◌, ◌<◌, ◌≤◌, max, Bool, true, false, cond, ltb, ◌⊎◌, List, [], ◌∷◌, sym, refl, ap, ◌∙◌, subst, inl, inr, suc-mul, zero-mul, arith}
+use Rattle.std.proofs.lemmas.Bool.{cases_lt, cases_eq, both_ways, and_parts, ltb-true}
 use Rattle.model.specs.Lists.{all_of}
 use Rattle.model.specs.Routes.{Edge, has}
 use Rattle.model.specs.Waits.{turn_cost, largest, total}
 use Rattle.model.proofs.Holding.{largest_one, largest_least, largest_met}
 use Rattle.patience.specs.Caps.{capped, heaviest}
-
-pub capped_add : (a b : ℕ) → capped (capped a + b) ≡ capped (a + b)
-capped_add a b = omega arith
 
 -- a turn's cost by a hold that is only told
 pub capped_turn : (k h : ℕ) → capped (turn_cost k (capped h)) ≡ capped (turn_cost k h)
@@ -88,13 +85,6 @@ largest_heaviest f c n es inside = by (largest_met f c es) (heaviest_met f (has 
     by (inr p) (inr q) =
         let z = largest_least f c q.0 es q.1 in let w = q.2 in
         let y = heaviest_least f (has es c) n p.0 (inside p.0 p.1) p.1 in let v = p.2 in omega arith
-
--- one channel more
-pub heaviest_hit : (f : ℕ → ℕ) (e : ℕ → Bool) (m x : ℕ) → e m ≡ true → x ≡ max (heaviest f e m) (f m) → x ≡ heaviest f e (m + 1)
-heaviest_hit f e m x t q = q ∙ sym (ap (heaviest f e) (add-one m) ∙ cond-true _ _ _ t)
-
-pub heaviest_miss : (f : ℕ → ℕ) (e : ℕ → Bool) (m x : ℕ) → e m ≡ false → x ≡ heaviest f e m → x ≡ heaviest f e (m + 1)
-heaviest_miss f e m x t q = q ∙ sym (ap (heaviest f e) (add-one m) ∙ cond-false _ _ _ t)
 
 -- sums of told numbers
 pub total_told : (f g : ℕ → ℕ) (n a : ℕ) (cs : List ℕ) → ((c : ℕ) → c < n → f c ≡ capped (g c)) → all_of (λ c. ltb c n) cs ≡ true

@@ -14,8 +14,8 @@ fn first_blocker<G: Graph>(
 ) -> Option<u32>
     ensures { FirstBlock (G.edge lane.now) (waits watch.now) (G.nodes lane.now) channel from result }
 {
-    (from as u32..lane.node_count()).find(|other| watch[*other as usize].is_some()
-        && lane.leads(*other, channel))
+    let blocks = |other: &u32| watch[*other as usize].is_some() && lane.leads(*other, channel);
+    (u32::from(from)..lane.node_count()).find(blocks)
 }
 
 // Whether a channel waits and its predecessors do not. Of each channel that waits `watch` keeps a number below which no predecessor
@@ -45,6 +45,7 @@ fn next_free<G: Graph>(lane: &G, watch: &mut [Option<u8>; 128]) -> Option<u8>
     ensures same { waits watch.new ≡ waits watch.old }
     ensures watched { Watched (G.edge lane.now) watch.new }
 {
+    // No `find`: the test changes `watch`, and its closure would need a contract of its own.
     for channel in 0..lane.node_count() {
         if is_free(lane, watch, channel) {
             return Some(channel as u8);

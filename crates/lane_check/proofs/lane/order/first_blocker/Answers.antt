@@ -7,6 +7,6 @@ pub returns : goal.returns
 returns g c =
     let e : ℕ → ℕ → Bool = g.G.Graph.edge c.args.lane.now in
     let w : ℕ → Bool = waits c.args.watch.now in
-    rw (← c.node_count.ensures)
+    rw (← c.node_count.ensures, ← c.from.ensures)
     (first_from_Range _ _ _ c.find.result (λ x. blocks e w c.args.channel x ≡ true) (λ x. blocks e w c.args.channel x ≡ false) c.find.ensures.ran
     (λ x q k. search (rules, tests)) (λ x q k. search (rules, tests)))
