@@ -20,8 +20,9 @@ use Rattle.lane_check.specs.Findings.{Finding, passed, cycle_in, refused, findin
 abbrev pub setup_of : Fabric → ℕ → Rule → Setup
 setup_of f lanes rule = record { net = net f; lanes = lanes; rule = rule }
 
-abbrev pub model_of : {R : Type 0} → (R → Rule) → CodeSetup R → Setup
-model_of maps s = setup_of s.fabric.now s.lanes.lanes (maps s.rule.now)
+-- The code's setup as the model's.
+abbrev pub plain_setup : {R : Type 0} → (R → Rule) → CodeSetup R → Setup
+plain_setup maps s = setup_of s.fabric.now s.lanes.lanes (maps s.rule.now)
 
 -- The refusals of the call: a lane count that is not 1 to 8, and a list that is too short.
 abbrev pub bad_lane_count : Refusal
@@ -35,7 +36,7 @@ few_lanes lanes = nat_le 1 lanes && nat_le lanes 8
 
 -- Making what is judged answers just that, or the refusal of a lane count that is not 1 to 8.
 abbrev pub MakesSetup : {R : Type 0} → (R → Rule) → Setup → Result (CodeSetup R) CallFault → Type 0
-MakesSetup maps g (Ok s) = (model_of maps s ≡ g) × (few_lanes s.lanes.lanes ≡ true)
+MakesSetup maps g (Ok s) = (plain_setup maps s ≡ g) × (few_lanes s.lanes.lanes ≡ true)
 MakesSetup maps g (Err f) = (call_refusal f ≡ Some bad_lane_count) × (few_lanes g.lanes ≡ false)
 
 -- An order list of o bytes has one for each of n channels of each lane, and a cycle list of c bytes one for each channel.

@@ -1,14 +1,14 @@
 ghost use Rattle.std.specs.Prelude.{◌≡◌, true, nat_lt};
 ghost use Rattle.model.specs.Net.{is_pair};
 ghost use Rattle.fabric.specs.Pairs.{plain_pair};
-ghost use Rattle.lane_check.specs.Checks.{model_of};
+ghost use Rattle.lane_check.specs.Checks.{plain_setup};
 ghost use Rattle.lane_check.specs.Findings.{PairFault, FirstFault};
 
 use crate::setup::Setup;
 use fabric::Pair;
 use routing::{Ending, RouteRule, RuleFault, route_ending};
 
-impl<R: RouteRule> Setup<'_, '_, R> {
+impl<R: RouteRule> Setup<'_, R> {
     // Whether the lane of a pair is below the lane count.
     fn is_laned(&self, pair: Pair) -> bool
         ensures { result ≡ nat_lt ((R.maps self.now.rule.now).lane pair.source pair.destination) self.now.lanes.lanes }
@@ -18,8 +18,8 @@ impl<R: RouteRule> Setup<'_, '_, R> {
 
     // Whether a pair arrives, in a lane below the lane count.
     fn judge_pair(&self, pair: Pair) -> Result<(), RuleFault>
-        requires { is_pair (model_of R.maps self.now).net.switches pair.source pair.destination ≡ true }
-        ensures { PairFault (model_of R.maps self.now) (plain_pair pair) result }
+        requires { is_pair (plain_setup R.maps self.now).net.switches pair.source pair.destination ≡ true }
+        ensures { PairFault (plain_setup R.maps self.now) (plain_pair pair) result }
     {
         let Pair {
             source,
@@ -41,7 +41,7 @@ impl<R: RouteRule> Setup<'_, '_, R> {
 
     // The first fault of all pairs, by source, then destination.
     pub(crate) fn judge_pairs(&self) -> Result<(), RuleFault>
-        ensures { FirstFault (model_of R.maps self.now) result }
+        ensures { FirstFault (plain_setup R.maps self.now) result }
     {
         for pair in self.fabric.pairs() {
             self.judge_pair(pair)?;

@@ -2,7 +2,7 @@ ghost use Rattle.std.specs.Prelude.{◌≡◌, length, Ok, Err};
 ghost use Rattle.model.specs.Net.{count};
 ghost use Rattle.fabric.specs.Faults.{call_refusal};
 ghost use Rattle.fabric.specs.Of.{net};
-ghost use Rattle.lane_check.specs.Checks.{setup_of, model_of, long_enough, Checked, YesExactly};
+ghost use Rattle.lane_check.specs.Checks.{setup_of, plain_setup, long_enough, Checked, YesExactly};
 ghost use Rattle.lane_check.specs.Answers.{accepted, part};
 
 use crate::setup::Setup;
@@ -18,10 +18,10 @@ pub struct Accepted {
     channels: u8,
 }
 
-impl<R: RouteRule> Setup<'_, '_, R> {
+impl<R: RouteRule> Setup<'_, R> {
     // A yes to the setup.
     fn accepted(&self) -> Accepted
-        ensures { result ≡ accepted (model_of R.maps self.now) }
+        ensures { result ≡ accepted (plain_setup R.maps self.now) }
     {
         Accepted {
             lanes: self.lanes.get() as u8,

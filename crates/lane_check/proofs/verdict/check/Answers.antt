@@ -5,7 +5,7 @@ use Rattle.model.specs.Rules.{Setup}
 use Rattle.fabric.specs.Of.{net}
 use Rattle.fabric.specs.declared.fault.CallFault.TheVariants.{ShortList}
 use Rattle.routing.specs.declared.fault.RuleFault.TheVariants.{Call}
-use Rattle.lane_check.specs.Checks.{setup_of, model_of}
+use Rattle.lane_check.specs.Checks.{setup_of, plain_setup}
 use Rattle.lane_check.proofs.Settling.{long_parts, found_count, found_short, Answers, answers, fault_answers, cycle_answers, yes_answers}
 use Rattle.lane_check.proofs.verdict.check.Goals as goal
 
@@ -20,7 +20,7 @@ returns-in_err-setup g c =
 
 pub returns-then-not-long_enough : goal.returns-then-not-long_enough
 returns-then-not-long_enough g c =
-    let G = model_of g.R.RouteRule.maps c.in_ok-setup.setup in
+    let G = plain_setup g.R.RouteRule.maps c.in_ok-setup.setup in
     let made = c.in_ok-setup.ensures in
     let o = c.args.order.now in
     let x = c.args.cycle.now in
@@ -36,7 +36,7 @@ returns-in_err-judge_pairs g c =
     let p = err_from_is_err_and c.from_residual-in_err-judge_pairs.result c.from_residual-in_err-judge_pairs.ensures.1 in
     rw (p.1, p.2)
     (subst (λ (g : Setup). Answers g o o x x (Err f)) made.0
-    (fault_answers (model_of g.R.RouteRule.maps c.in_ok-setup.setup) o o x x made.1 c.if-not-long_enough.ensures f c.in_err-judge_pairs.ensures refl refl))
+    (fault_answers (plain_setup g.R.RouteRule.maps c.in_ok-setup.setup) o o x x made.1 c.if-not-long_enough.ensures f c.in_err-judge_pairs.ensures refl refl))
 
 pub settle_lanes-requires-clause-room : goal.settle_lanes-requires-clause-room
 settle_lanes-requires-clause-room g c =
@@ -53,7 +53,7 @@ returns-in_err-settle_lanes g c =
     let p = err_from_is_err_and c.from_residual-in_err-settle_lanes.result c.from_residual-in_err-settle_lanes.ensures.1 in
     rw (p.1, p.2)
     (subst (λ (g : Setup). Answers g o o' x x' (Err f)) made.0
-    (cycle_answers (model_of g.R.RouteRule.maps c.in_ok-setup.setup) o o' x x' made.1 c.if-not-long_enough.ensures f c.in_err-settle_lanes.ensures))
+    (cycle_answers (plain_setup g.R.RouteRule.maps c.in_ok-setup.setup) o o' x x' made.1 c.if-not-long_enough.ensures f c.in_err-settle_lanes.ensures))
 
 pub returns : goal.returns
 returns g c =
@@ -64,4 +64,4 @@ returns g c =
     let x' = c.settle_lanes.new.cycle in
     subst (λ (g : Setup). Answers g o o' x x' (Ok c.accepted.result)) made.0
     (rw c.accepted.ensures
-    (yes_answers (model_of g.R.RouteRule.maps c.in_ok-setup.setup) o o' x x' made.1 c.if-not-long_enough.ensures c.in_ok-settle_lanes.ensures))
+    (yes_answers (plain_setup g.R.RouteRule.maps c.in_ok-setup.setup) o o' x x' made.1 c.if-not-long_enough.ensures c.in_ok-settle_lanes.ensures))

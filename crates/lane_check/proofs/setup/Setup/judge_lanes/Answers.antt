@@ -1,24 +1,24 @@
 use Rattle.std.proofs.Common.{ℕ, List, sym, refl, ◌∙◌, subst, arith}
 use Rattle.model.specs.Routes.{lane_deps, depends}
 use Rattle.routing.specs.Dependencies.{leads}
-use Rattle.lane_check.specs.Checks.{model_of}
+use Rattle.lane_check.specs.Checks.{plain_setup}
 use Rattle.lane_check.specs.Circles.{Looped}
 use Rattle.lane_check.proofs.Laning.{leads_cycle, looped_same, clear_none, clear_more, clear_cyclic, clear_all}
 use Rattle.lane_check.proofs.setup.Setup.judge_lanes.Goals as goal
 
 pub loop-lane-init : goal.loop-lane-init
-loop-lane-init g c = (clear_none (model_of g.R.RouteRule.maps c.args.self.now) c.requires.paired, refl)
+loop-lane-init g c = (clear_none (plain_setup g.R.RouteRule.maps c.args.self.now) c.requires.paired, refl)
 
 pub write_cycle-requires-clause-cyclic : goal.write_cycle-requires-clause-cyclic
 write_cycle-requires-clause-cyclic g c =
-    let G = model_of g.R.RouteRule.maps c.args.self.now in
+    let G = plain_setup g.R.RouteRule.maps c.args.self.now in
     let D = c.dependencies-found.ensures in
     leads_cycle G.net G.rule c.loop-lane.lane c.dependencies-found.result D.size D.each
     (sym (c.sort.ensures (lane_deps G.net G.rule c.loop-lane.lane) D.each).0 ∙ c.if-is_none.ensures)
 
 pub returns-then-is_none : goal.returns-then-is_none
 returns-then-is_none g c =
-    let G = model_of g.R.RouteRule.maps c.args.self.now in
+    let G = plain_setup g.R.RouteRule.maps c.args.self.now in
     let ℓ : ℕ = c.loop-lane.lane in
     let d = c.dependencies-found.result in
     let D = c.dependencies-found.ensures in (
@@ -33,7 +33,7 @@ returns-then-is_none g c =
 
 pub loop-lane-preserved : goal.loop-lane-preserved
 loop-lane-preserved g c =
-    let G = model_of g.R.RouteRule.maps c.args.self.now in
+    let G = plain_setup g.R.RouteRule.maps c.args.self.now in
     let ℓ : ℕ = c.loop-lane.lane in
     let D = c.dependencies-found.ensures in (
       clear_more G ℓ c.dependencies-found.result.channels (omega (arith, c.get-lane-end.ensures.is)) D.size
@@ -42,4 +42,4 @@ loop-lane-preserved g c =
     )
 
 pub returns : goal.returns
-returns g c = (clear_all (model_of g.R.RouteRule.maps c.args.self.now) c.loop-lane.lane (omega (arith, c.get-lane-end.ensures.is)) c.loop-lane.invariant.0, c.loop-lane.invariant.1)
+returns g c = (clear_all (plain_setup g.R.RouteRule.maps c.args.self.now) c.loop-lane.lane (omega (arith, c.get-lane-end.ensures.is)) c.loop-lane.invariant.0, c.loop-lane.invariant.1)
