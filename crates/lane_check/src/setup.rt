@@ -3,7 +3,7 @@ ghost use Rattle.lane_check.specs.Checks.{setup_of, MakesSetup};
 use fabric::{CallFault, Fabric, LaneCount};
 use routing::RouteRule;
 
-// What is judged: a fabric, a lane count and a rule.
+// What is judged: a fabric, a lane count and a rule. A run has such a type too: methods stand only on a type of their own crate.
 #[derive(Drop)]
 pub(crate) struct Setup<'a, R> {
     pub(crate) fabric: &'a Fabric,
