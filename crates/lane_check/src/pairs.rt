@@ -1,12 +1,11 @@
-ghost use Rattle.std.specs.Prelude.{◌≡◌, true, nat_lt};
-ghost use Rattle.model.specs.Net.{is_pair};
+ghost use Rattle.std.specs.Prelude.{◌≡◌, nat_lt};
 ghost use Rattle.fabric.specs.Pairs.{plain_pair};
 ghost use Rattle.lane_check.specs.Checks.{plain_setup};
 ghost use Rattle.lane_check.specs.Findings.{PairFault, FirstFault};
 
 use crate::setup::Setup;
 use fabric::Pair;
-use routing::{Ending, RouteRule, RuleFault, route_ending};
+use routing::{RouteRule, RuleFault, judge_route};
 
 impl<R: RouteRule> Setup<'_, R> {
     // Whether the lane of a pair is below the lane count.
@@ -18,24 +17,13 @@ impl<R: RouteRule> Setup<'_, R> {
 
     // Whether a pair arrives, in a lane below the lane count.
     fn judge_pair(&self, pair: Pair) -> Result<(), RuleFault>
-        requires { is_pair (plain_setup R.maps self.now).net.switches pair.source pair.destination ≡ true }
         ensures { PairFault (plain_setup R.maps self.now) (plain_pair pair) result }
     {
-        let Pair {
-            source,
-            destination,
-        } = pair;
-        match route_ending(
-            self.fabric,
-            self.rule,
-            u32::from(source),
-            u32::from(destination),
-        ) {
-            Some(Ending::Stops(at)) => Err(RuleFault::Stopped(source, destination, at)),
-            Some(Ending::Tires) => Err(RuleFault::Unreached(source, destination)),
-            Some(Ending::Arrives) if self.is_laned(pair) => Ok(()),
-            Some(Ending::Arrives) => Err(RuleFault::Laneless(source, destination)),
-            None => Ok(()),
+        judge_route(self.fabric, self.rule, pair)?;
+        if self.is_laned(pair) {
+            Ok(())
+        } else {
+            Err(RuleFault::Laneless(pair.source, pair.destination))
         }
     }
 

@@ -1,16 +1,10 @@
 -- What the stages of planning answer.
 use Rattle.std.specs.Prelude.{◌≡◌, ℕ, ◌*◌, List, Some, None, Ok, Err, Option, Result}
-use Rattle.model.specs.Routes.{Ending}
 use Rattle.model.specs.Refusals.{Refusal}
-use Rattle.model.specs.Planner.{Planned, tables, refused, ending_refusal}
+use Rattle.model.specs.Planner.{Planned, tables, refused}
 use Rattle.arrayvec.specs.ArrayVec.{ArrayVec, array_vec_len}
 use Rattle.planner.specs.Faults.{topology_refusal}
 use Rattle.planner.specs.declared.fault.TopologyFault.{TopologyFault}
-
--- The refusal of switches s and d by how their route ends, if they are a pair.
-abbrev pub ending_fault : ℕ → ℕ → Option Ending → Option Refusal
-ending_fault s d None = None
-ending_fault s d (Some e) = ending_refusal s d e
 
 -- A test: passed where nothing is refused, else the refusal.
 abbrev pub Judges : {F : Type 0} → (F → Option Refusal) → Option Refusal → Result (Unit {0}) F → Type 0

@@ -1,17 +1,14 @@
 ghost use Rattle.model.specs.Routes.{pairs_of};
 ghost use Rattle.model.specs.Planner.{path_refusal, routes_refusal};
 ghost use Rattle.fabric.specs.Of.{net};
-ghost use Rattle.routing.specs.Faults.{rule_refusal};
-ghost use Rattle.routing.specs.Walks.{pair_ends};
 ghost use Rattle.planner.specs.Drafts.{rule_of};
 ghost use Rattle.planner.specs.Faults.{topology_refusal};
-ghost use Rattle.planner.specs.Stages.{ending_fault, Judges};
+ghost use Rattle.planner.specs.Stages.{Judges};
 
 use crate::draft::Draft;
 use crate::fault::TopologyFault;
 use crate::rows::HopRows;
-use fabric::Pair;
-use routing::{Ending, RuleFault, route_ending};
+use routing::judge_route;
 
 // Refusal 9: the first pair without a path.
 pub(crate) fn judge_paths(rows: &HopRows) -> Result<(), TopologyFault>
@@ -25,28 +22,12 @@ pub(crate) fn judge_paths(rows: &HopRows) -> Result<(), TopologyFault>
     Ok(())
 }
 
-// Whether the route of a pair arrives.
-fn judge_route(draft: &Draft, pair: Pair) -> Result<(), RuleFault>
-    ensures { Judges rule_refusal (ending_fault pair.source pair.destination (pair_ends (net draft.now.fabric.now) (rule_of draft.now) pair.source pair.destination)) result }
-{
-    match route_ending(
-        draft.fabric,
-        draft,
-        pair.source as u32,
-        pair.destination as u32,
-    ) {
-        None | Some(Ending::Arrives) => Ok(()),
-        Some(Ending::Stops(at)) => Err(RuleFault::Stopped(pair.source, pair.destination, at)),
-        Some(Ending::Tires) => Err(RuleFault::Unreached(pair.source, pair.destination)),
-    }
-}
-
 // Refusals 5 and 6, pair by pair.
 pub(crate) fn judge_routes(draft: &Draft) -> Result<(), TopologyFault>
     ensures { Judges topology_refusal (routes_refusal (net draft.now.fabric.now) (rule_of draft.now) (pairs_of (net draft.now.fabric.now).switches)) result }
 {
     for pair in draft.fabric.pairs() {
-        judge_route(draft, pair)?;
+        judge_route(draft.fabric, draft, pair)?;
     }
     Ok(())
 }

@@ -1,8 +1,12 @@
 -- What walking along a route answers.
-use Rattle.std.specs.Prelude.{◌≡◌, ℕ, ◌<◌, cond, Some, None, Option}
+use Rattle.std.specs.Prelude.{◌≡◌, ℕ, ◌<◌, cond, Some, None, Ok, Err, Option, Result}
 use Rattle.model.specs.Net.{Net, count, start_of, finish_of, is_pair}
 use Rattle.model.specs.Rules.{Rule}
 use Rattle.model.specs.Routes.{Ending, arrives, stops, tires, route_ends}
+use Rattle.model.specs.Refusals.{Refusal}
+use Rattle.model.specs.Planner.{ending_refusal}
+use Rattle.routing.specs.Faults.{rule_refusal}
+use Rattle.routing.specs.declared.fault.RuleFault.{RuleFault}
 use Rattle.routing.specs.declared.walk.Ending.{Ending as CodeEnding}
 use Rattle.routing.specs.declared.walk.Ending.TheVariants.{Arrives, Stops, Tires}
 use Rattle.routing.specs.declared.walk.Hop.{Hop}
@@ -30,3 +34,8 @@ Comes n u c = (c < count n) × (finish_of n c ≡ u)
 -- How the route of a pair ends; none where the two are no pair.
 abbrev pub pair_ends : Net → Rule → ℕ → ℕ → Option Ending
 pair_ends n rule s d = cond (is_pair n.switches s d) (Some (route_ends n rule s d)) None
+
+-- Whether the route of switches s and d arrives, by how it ends; else the fault is that of its end.
+abbrev pub JudgesRoute : ℕ → ℕ → Ending → Result (Unit {0}) RuleFault → Type 0
+JudgesRoute s d e (Ok _) = e ≡ arrives
+JudgesRoute s d e (Err f) = (r : Refusal) × (ending_refusal s d e ≡ Some r) × (rule_refusal f ≡ Some r)

@@ -17,7 +17,7 @@ pub use route::{Route, Step, Steps};
 pub use rows::Rows;
 pub use rule::RouteRule;
 pub use table::Table;
-pub use walk::{Ending, Hop, next_hop, route_ending};
+pub use walk::{Ending, Hop, judge_route, next_hop, route_ending};
 
 #[cfg(test)]
 mod tests;

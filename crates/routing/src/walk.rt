@@ -1,12 +1,13 @@
 ghost use Rattle.std.specs.Prelude.{◌≡◌, ◌<◌, IfSome};
 ghost use Rattle.std.specs.Option.{option_map};
-ghost use Rattle.model.specs.Routes.{hop};
+ghost use Rattle.model.specs.Routes.{hop, route_ends};
 ghost use Rattle.fabric.specs.Of.{net};
-ghost use Rattle.routing.specs.Walks.{ending_of, channel_of, pair_ends, Leads};
+ghost use Rattle.routing.specs.Walks.{ending_of, channel_of, pair_ends, JudgesRoute, Leads};
 
+use crate::fault::RuleFault;
 use crate::route::Route;
 use crate::rule::RouteRule;
-use fabric::Fabric;
+use fabric::{Fabric, Pair};
 
 // One step of a route: the channel that it takes, and the switch at which that ends.
 #[derive(Clone, Copy, PartialEq, Eq, Debug)]
@@ -53,4 +54,15 @@ pub fn route_ending<R: RouteRule>(
 {
     let pair = fabric.pair(source, destination)?;
     Some(Route::of(fabric, rule, pair).ending())
+}
+
+// Whether the route of a pair arrives; else refusal 5 or 6.
+pub fn judge_route<R: RouteRule>(fabric: &Fabric, rule: &R, pair: Pair) -> Result<(), RuleFault>
+    ensures { JudgesRoute pair.source pair.destination (route_ends (net fabric.now) (R.maps rule.now) pair.source pair.destination) result }
+{
+    match Route::of(fabric, rule, pair).ending() {
+        Ending::Arrives => Ok(()),
+        Ending::Stops(at) => Err(RuleFault::Stopped(pair.source, pair.destination, at)),
+        Ending::Tires => Err(RuleFault::Unreached(pair.source, pair.destination)),
+    }
 }
