@@ -78,4 +78,3 @@ loop-pair-preserved c =
           filing_more _ _ _ _ _ _ (plain_pair c.in-Some.pair) _ (rw c.in-Some.ensures.steps.1 at i.filing) c.place.new.board l _
           (rw some at c.place.ensures) written;
     }
-

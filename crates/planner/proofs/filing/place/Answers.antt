@@ -7,4 +7,3 @@ returns-then-file_in c = search (rules, placing)
 
 pub loop-lane-preserved : goal.loop-lane-preserved
 loop-lane-preserved c = search (rules, refusing_more)
-
