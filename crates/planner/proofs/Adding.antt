@@ -1,5 +1,5 @@
 -- The dependencies of a route, one after the other, into a lane.
-use Rattle.std.proofs.Common.{◌≡◌, ℕ, ◌<◌, Bool, true, false, ◌||◌, List, [], ◌∷◌, is_some, Some, None, Option, sym, refl, ap, ◌∙◌, subst, ◌≢◌}
+use Rattle.std.proofs.Common.{◌≡◌, ℕ, ◌<◌, Bool, true, false, ◌||◌, List, ◌∷◌, is_some, Some, None, Option, sym, refl, ap, ◌∙◌, subst, ◌≢◌}
 use Rattle.std.proofs.lemmas.Bool.{eq-eqb, ne_eqb, lt-ltb, or_left, or_right}
 use Rattle.model.specs.Routes.{Edge, has}
 use Rattle.model.specs.Walks.{Fewest}
@@ -10,14 +10,6 @@ use Rattle.routing.specs.declared.route.Step.{Step}
 use Rattle.planner.specs.Cycles.{Acyclic, Reach, only}
 use Rattle.planner.specs.Boards.{Sound, with, Admits, Tried}
 use Rattle.planner.proofs.Closing.{walk_more, acyclic_less, acyclic_plus, closes}
-
-or_none : (x : Bool) → x ≡ (x || false)
-or_none true = refl
-or_none false = refl
-
-or_assoc : (x y z : Bool) → ((x || y) || z) ≡ (x || (y || z))
-or_assoc true y z = refl
-or_assoc false y z = refl
 
 -- A step joins two different channels that exist.
 taking_is : (n : ℕ) (x : Step) (b c : ℕ) → x.tail < n → x.head < n → (x.tail ≢ x.head) → taking n x b c ≡ only x.tail x.head b c
@@ -51,15 +43,6 @@ module _ (n : ℕ) (needed : ℕ → ℕ → Bool) (was : Dependencies) where
     pub each : (b c : ℕ) → (leads is b c || has rest b c) ≡ with was needed b c
     pub sound : Sound n is
 
-  -- One more.
-  pub noted_more : (is more : Dependencies) (x : Step) (rest : List Edge) → Noted is (edge_of x ∷ rest) → Admits x.tail x.head is more true → Noted more rest
-  noted_more is more x rest N A =
-      record {
-        each = λ b c.
-            ap (λ (z : Bool). z || has rest b c) (A.adds b c) ∙ or_assoc (leads is b c) (only x.tail x.head b c) (has rest b c) ∙ N.each b c;
-        sound = record { size = A.sound.size ∙ N.sound.size; free = subst (Acyclic (leads more)) N.sound.size A.sound.free };
-      }
-
   -- One that closes a cycle.
   pub noted_closes : (is more : Dependencies) (x : Step) (rest : List Edge) → x.tail < n → x.head < n → Noted is (edge_of x ∷ rest)
       → Admits x.tail x.head is more false → Tried n needed was more false
@@ -70,6 +53,3 @@ module _ (n : ℕ) (needed : ℕ → ℕ → Bool) (was : Dependencies) where
       let back = walk_more (leads is) W n (λ b c hb hc h. sym (N.each b c) ∙ or_left (leads is b c) (has (edge_of x ∷ rest) b c) h) x.head in
       let way = subst (λ (m : ℕ). Reach (leads is) m x.head x.tail) N.sound.size r in
       record { closes = closes W n x.tail x.head ht hh (way.0, back way.0 x.tail ht way.1) there }
-
-  pub noted_all : (is : Dependencies) → Noted is [] → Tried n needed was is true
-  noted_all is N = record { adds = λ b c. or_none (leads is b c) ∙ N.each b c; sound = N.sound }

@@ -1,5 +1,6 @@
 -- Pairs are filed one after the other, as the model files them.
 use Rattle.std.proofs.Common.{◌≡◌, ℕ, zero, suc, ◌+◌, ◌*◌, ◌<◌, Bool, true, false, ◌&&◌, ◌||◌, eqb, List, [], ◌∷◌, ◌++◌, length, get_or, set, replicate, Some, None, Option, sym, refl, ap, ◌∙◌, subst, inl, inr, arith, length-set}
+use Rattle.std.proofs.Math.Bool.{or_assoc, or_comm, or-false}
 use Rattle.std.proofs.lemmas.List.{get_or-replicate, length-replicate, get_or-set_same, get_or-set_other}
 use Rattle.std.proofs.lemmas.Bool.{cases_eq, false≢true}
 use Rattle.model.specs.Lists.{any_of}
@@ -8,7 +9,7 @@ use Rattle.model.specs.Rules.{Rule}
 use Rattle.model.specs.Routes.{Edge, Pair, route, steps, has}
 use Rattle.model.specs.Order.{completes}
 use Rattle.model.specs.Refusals.{refuse, topology_layer}
-use Rattle.model.specs.Planner.{Planned, tables, refused, fits_at, file_from}
+use Rattle.model.specs.Planner.{Planned, refused, fits_at, file_from}
 use Rattle.model.proofs.Members.{any_cases}
 use Rattle.model.proofs.Ordering.{Inside}
 use Rattle.model.proofs.Walking.{walk_exists}
@@ -19,17 +20,10 @@ use Rattle.planner.proofs.Closing.{acyclic_less}
 use Rattle.planner.proofs.Completing.{completes_yes, completes_no, steps_inside}
 
 has_append : (f : Edge → Bool) (xs ys : List Edge) → any_of f (xs ++ ys) ≡ (any_of f ys || any_of f xs)
-has_append f [] ys = sym (none (any_of f ys))
-  where
-    none : (b : Bool) → (b || false) ≡ b
-    none true = refl
-    none false = refl
-has_append f (x ∷ xs) ys = ap (λ (b : Bool). f x || b) (has_append f xs ys) ∙ turn (f x) (any_of f ys) (any_of f xs)
-  where
-    turn : (a b c : Bool) → (a || (b || c)) ≡ (b || (a || c))
-    turn true true c = refl
-    turn true false c = refl
-    turn false b c = refl
+has_append f [] ys = sym (or-false (any_of f ys))
+has_append f (x ∷ xs) ys =
+    ap (λ (b : Bool). f x || b) (has_append f xs ys) ∙ sym (or_assoc (f x) (any_of f ys) (any_of f xs))
+    ∙ ap (λ (b : Bool). b || any_of f xs) (or_comm (f x) (any_of f ys)) ∙ or_assoc (any_of f ys) (f x) (any_of f xs)
 
 -- The lowest lane that fits.
 fits_some : (n : ℕ) (new : List Edge) (ess : List (List Edge)) (i l : ℕ) → l < length ess
@@ -192,8 +186,3 @@ module _ (net : Net) (rule : Rule) (table : List ℕ) where
               F.left ∙ ap (onward p.source p.destination rest F.ess done) (fits_here p.source p.destination board F.ess F.kept is l P)
               ∙ ap (file_from net rule table rest (set F.ess l (steps (route net rule p.source p.destination) ++ get_or F.ess l []))) (sym e);
         }
-
-  -- All are filed.
-  pub filing_all : (first : Planned) (board : List Dependencies) (done : List ℕ) (rest : List Pair) → Filing first board done rest → rest ≡ []
-      → first ≡ tables table done
-  filing_all first board done rest F e = F.left ∙ ap (λ ps. file_from net rule table ps F.ess done) e

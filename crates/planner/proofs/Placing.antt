@@ -1,10 +1,10 @@
 -- Lane after lane is tried.
-use Rattle.std.proofs.Common.{◌≡◌, ℕ, ◌+◌, ◌<◌, ◌≤◌, Bool, true, false, List, length, get_or, set, sym, ap, ◌∙◌, subst, inl, inr, arith}
-use Rattle.std.specs.List.{All, AllWithin}
+use Rattle.std.proofs.Common.{◌≡◌, ℕ, ◌+◌, ◌<◌, Bool, true, false, List, length, get_or, set, sym, ap, ◌∙◌, subst, inl, inr, arith}
+use Rattle.std.specs.List.{AllWithin}
 use Rattle.std.proofs.lemmas.Bool.{cases_eq}
 use Rattle.std.proofs.lemmas.List.{get_or_default, set-get_or}
 use Rattle.routing.specs.declared.dependencies.Dependencies.{Dependencies}
-use Rattle.planner.specs.Boards.{Sound, Refuses, Filed, PlacedIn}
+use Rattle.planner.specs.Boards.{Refuses, Filed, PlacedIn}
 
 module _ (n : ℕ) (e : ℕ → ℕ → Bool) (was : List Dependencies) where
   -- The lanes below l refused the dependencies, and all stand as they were.
@@ -13,8 +13,6 @@ module _ (n : ℕ) (e : ℕ → ℕ → Bool) (was : List Dependencies) where
     pub lower : AllWithin (Refuses n e) was 0 l
 
   -- What the lane that is tried must be.
-  pub sound_at : (is : List Dependencies) (l : ℕ) (r : Dependencies) → Refusing is l → All (Sound n) was → l < length is → Sound n (get_or is l r)
-  sound_at is l r R H h = subst (λ bs. Sound n (get_or bs l r)) (sym R.same) (H l r (omega (arith, ap length R.same)))
 
   -- Another lane refuses them.
   pub refusing_more : (is : List Dependencies) (l : ℕ) (y r : Dependencies) (b : Bool) → Refusing is l → Filed n e (get_or is l r) y b → b ≡ false → l < length is
@@ -46,6 +44,3 @@ module _ (n : ℕ) (e : ℕ → ℕ → Bool) (was : List Dependencies) where
         adds = λ d. rw (get_or_default was l d r (omega (arith, ap length R.same)), ← R.same) f.adds;
         sound = f.sound;
       }
-
-  pub refusing_all : (is : List Dependencies) (l : ℕ) → Refusing is l → length is ≤ l → All (Refuses n e) was
-  refusing_all is l R h = λ k d hk. R.lower k d (omega arith) (omega (arith, ap length R.same))

@@ -15,7 +15,7 @@ fn one_more(near: Option<u32>, far: Option<u32>) -> bool
     ensures { result ≡ one_more near far }
 {
     match (near, far) {
-        (Some(near), Some(far)) => near < far && far - near == 1,
+        (Some(near), Some(far)) => near.checked_add(1) == Some(far),
         _ => false,
     }
 }

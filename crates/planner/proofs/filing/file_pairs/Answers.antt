@@ -13,7 +13,7 @@ use Rattle.fabric.specs.declared.pairs.Pairs.{Pairs}
 use Rattle.planner.specs.Drafts.{rule_of}
 use Rattle.planner.specs.Faults.{topology_refusal}
 use Rattle.planner.specs.declared.fault.TopologyFault.TheVariants.{NoLane}
-use Rattle.planner.proofs.FiledPairs.{filing_none, filing_refused, filing_more, filing_all}
+use Rattle.planner.proofs.FiledPairs.{filing_none, filing_refused, filing_more}
 use Rattle.planner.proofs.filing.file_pairs.Goals as goal
 
 pub loop-pair-init : goal.loop-pair-init
@@ -38,9 +38,6 @@ loop-pair-init c =
           ∙ ap (λ (m : ℕ). file_from N (rule_of c.args.draft.now) t (left c.into_iter-pair-iterator.result) (replicate m []) (replicate (n * n) 255)) (sym g.is)
           ∙ ap (file_from N (rule_of c.args.draft.now) t (left c.into_iter-pair-iterator.result) (replicate c.get.result [])) (sym blank));
     }
-
-pub place-requires : goal.place-requires
-place-requires c = λ l d h. (c.loop-pair.invariant.filing.kept.each l d h).sound
 
 pub returns-in_err-lane : goal.returns-in_err-lane
 returns-in_err-lane c =
@@ -81,7 +78,3 @@ loop-pair-preserved c =
           filing_more _ _ _ _ _ _ (plain_pair c.in-Some.pair) _ (rw c.in-Some.ensures.steps.1 at i.filing) c.place.new.board l _
           (rw some at c.place.ensures) written;
     }
-
-pub returns : goal.returns
-returns c =
-    let i = c.loop-pair.invariant in (filing_all _ _ _ _ _ _ _ i.filing c.in-None.ensures.steps.1, i.long)
