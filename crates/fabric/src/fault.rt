@@ -67,6 +67,7 @@ impl FabricFault {
     }
 }
 
+// By hand: contracts name the fault that `?` makes, and a derived `From` has no contract.
 impl From<AllocError> for FabricFault {
     ghost from_gives = { λ _ r. r ≡ Memory };
 

@@ -48,6 +48,7 @@ impl FileFault {
     }
 }
 
+// By hand: contracts name the fault that `?` makes, and a derived `From` has no contract.
 impl From<FabricFault> for FileFault {
     ghost from_gives = { λ f r. r ≡ Fabric f };
 

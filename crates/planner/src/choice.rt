@@ -50,6 +50,7 @@ impl<'a> HopRows<'a> {
         ensures { result.items ≡ nearer (net self.now.fabric.now) pair.source pair.destination }
     {
         let mut list = ArrayVec::new();
+        // A loop, since `collect` into a list of fixed capacity can fail.
         for channel in 0..self.fabric.channel_count() {
             if self.is_nearer(channel, pair) {
                 list.push(channel as u8);

@@ -33,6 +33,7 @@ impl TopologyFault {
     }
 }
 
+// By hand: contracts name the fault that `?` makes, and a derived `From` has no contract.
 impl From<RuleFault> for TopologyFault {
     ghost from_gives = { λ f r. r ≡ Rule f };
 

@@ -19,6 +19,7 @@ fn place(draft: &Draft, board: &mut [Dependencies], pair: Pair) -> Option<usize>
     requires { All (Sound (count (net draft.now.fabric.now))) board.old }
     ensures { Placed (count (net draft.now.fabric.now)) (needs draft.now pair) board.old board.new result }
 {
+    // A loop, since nothing is known of what a closure of `position` writes.
     for (lane, filed) in board.iter_mut().enumerate() {
         if file_in(draft, filed, pair) {
             return Some(lane);

@@ -45,6 +45,7 @@ impl RuleFault {
     }
 }
 
+// By hand: contracts name the fault that `?` makes, and a derived `From` has no contract.
 impl From<FabricFault> for RuleFault {
     ghost from_gives = { λ f r. r ≡ Fabric f };
 

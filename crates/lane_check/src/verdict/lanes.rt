@@ -12,7 +12,6 @@ use crate::setup::Setup;
 use routing::{RouteRule, RuleFault};
 
 // Copies a list to the place `from` on.
-// Called for each part, since nothing is known of a list whose parts were written by `chunks_exact_mut`.
 fn put(list: &[u8], order: &mut [u8], from: usize)
     requires { from + length list.now ≤ length order.old }
     ensures { order.new ≡ take from order.old ++ (list.now ++ drop (from + length list.now) order.old) }

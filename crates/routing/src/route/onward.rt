@@ -31,6 +31,7 @@ impl<'f, 'r, R: RouteRule> Route<'f, 'r, R> {
     pub(crate) fn ending(mut self) -> Ending
         ensures { ending_of result ≡ ends_as R.maps self.entry }
     {
+        // Nothing is counted or read: the iterator is used up.
         while self.next().is_some() {}
         if self.switch == self.destination {
             Ending::Arrives
