@@ -20,7 +20,7 @@ pub enum CallFault {
 }
 
 impl CallFault {
-    // The number of the refusal.
+    // The number of the refusal; an option as of the other faults, though each of these has one.
     pub fn number(&self) -> Option<u8>
         ensures { result ≡ number_of (call_refusal self.now) }
     {

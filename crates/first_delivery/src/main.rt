@@ -6,7 +6,7 @@ ghost use Rattle.model.specs.Rules.{channel_byte};
 use fabric::Fabric;
 use lane_check::check;
 use routing::RouteRule;
-use routing::table::Table;
+use routing::table::{NONE, Table, channel_byte};
 use run::{Answer, Call, Request, Run};
 
 // Channels by switch and destination, four to a row; every lane is 0. The program's own rule, to show that any caller's rule serves.
@@ -20,10 +20,7 @@ impl RouteRule for Rows<'_> {
 
     fn channel(&self, switch: u8, destination: u8) -> Option<u8> {
         let at = switch as usize * 4 + destination as usize;
-        self.channels
-            .get(at)
-            .copied()
-            .filter(|channel| *channel < 255)
+        channel_byte(self.channels.get(at).copied().unwrap_or(NONE))
     }
 
     fn lane(&self, _source: u8, _destination: u8) -> u8 {

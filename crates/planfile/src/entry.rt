@@ -1,4 +1,4 @@
-ghost use Rattle.std.specs.Prelude.{◌≡◌, ◌≢◌, ◌+◌, ◌<◌, ◌≤◌, length, take, drop, OnOk, IfErr};
+ghost use Rattle.std.specs.Prelude.{◌≡◌, ◌↔◌, IsTrue, ◌≢◌, ◌+◌, ◌<◌, ◌≤◌, length, take, drop, OnOk, IfErr};
 ghost use Rattle.planfile.specs.Contents.{Taken};
 ghost use Rattle.planfile.specs.Faults.{part_number};
 ghost use Rattle.planfile.specs.File.{entry_bytes};
@@ -58,6 +58,13 @@ impl Entry {
         ensures { result ≡ self.offset + self.length }
     {
         self.offset as usize + self.length as usize
+    }
+
+    // Whether its body has this length and follows another's.
+    pub(crate) fn follows(self, other: Entry, length: usize) -> bool
+        ensures { IsTrue result ↔ ((self.offset ≡ other.offset + other.length) × (self.length ≡ length)) }
+    {
+        self.offset as usize == other.end() && self.length as usize == length
     }
 
     // The body in the bytes of its file.

@@ -25,15 +25,14 @@ fn open(bytes: &[u8]) -> Result<Contents, FileFault>
 fn hops_placed(contents: Contents, cells: u16) -> bool
     ensures { IsTrue result ↔ ((contents.hops.offset ≡ contents.link.offset + contents.link.length) × (contents.hops.length ≡ cells)) }
 {
-    contents.hops.offset as usize == contents.link.end() && contents.hops.length == cells
+    contents.hops.follows(contents.link, cells as usize)
 }
 
 // LANE follows HOPS, and has the lane count and a byte for each two switches.
 fn lane_placed(contents: Contents, cells: u16) -> bool
     ensures { IsTrue result ↔ ((contents.lane.offset ≡ contents.hops.offset + contents.hops.length) × (contents.lane.length ≡ 1 + cells)) }
 {
-    contents.lane.offset as usize == contents.hops.end()
-        && contents.lane.length as usize == 1 + cells as usize
+    contents.lane.follows(contents.hops, 1 + cells as usize)
 }
 
 // The bodies of the other entries, and refusals 17 of HOPS and LANE.

@@ -9,7 +9,7 @@ ghost use Rattle.planner.specs.Rows.{TakesPairs, Gives};
 use arrayvec::ArrayVec;
 use fabric::{Fabric, Pair};
 use routing::RouteRule;
-use routing::table::{NONE, cell};
+use routing::table::{NONE, cell, channel_byte};
 
 // A channel table in the making: for each switch of a fabric a row of bytes, one for each destination. It has no lanes yet.
 #[derive(Drop)]
@@ -53,7 +53,7 @@ impl RouteRule for Draft<'_> {
     fn channel(&self, switch: u8, destination: u8) -> Option<u8> {
         let cells = &self.cells;
         let switches = self.fabric.switch_count() as u8;
-        Some(cell(cells, switches, switch, destination)).filter(|channel| *channel < NONE)
+        channel_byte(cell(cells, switches, switch, destination))
     }
 
     fn lane(&self, _source: u8, _destination: u8) -> u8 {

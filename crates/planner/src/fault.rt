@@ -8,7 +8,8 @@ use fabric::CallFault;
 use routing::RuleFault;
 use thiserror::Error;
 
-// What is wrong with a topology: the cabling is sound, but allows no such plan. A pair is its source and its destination.
+// What is wrong with a topology: the cabling is sound, but allows no such plan. A pair is its
+// source and its destination: two numbers, as a caller is shown them.
 #[derive(Clone, Copy, PartialEq, Eq, Debug, Error)]
 pub enum TopologyFault {
     #[error("no path leads from switch {0} to switch {1}")]

@@ -7,7 +7,7 @@ mod adds;
 #[derive(Clone, Copy)]
 pub struct Dependencies {
     channels: u8,
-    // The cell of b and c is b * 128 + c. Of an array of rows the proofs do not know how long each row is.
+    // The cell of b and c is b * 128 + c: rows would each need a type, since of an array of arrays a proof knows no row's length.
     cells: [bool; 16384],
     ghost few: { (1 ≤ channels) × (channels ≤ 128) },
     ghost among: { Among channels cells },

@@ -7,7 +7,7 @@ use fabric::{CallFault, FabricFault};
 use std::alloc::AllocError;
 use thiserror::Error;
 
-// What is wrong with a route rule. A pair is its source and its destination.
+// What is wrong with a route rule. A pair is its source and its destination: two numbers, as a caller is shown them.
 #[derive(Clone, Copy, PartialEq, Eq, Debug, Error)]
 pub enum RuleFault {
     // A pair, and the switch on its way whose channel is none, missing or leaves another switch.

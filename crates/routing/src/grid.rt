@@ -5,6 +5,7 @@ ghost use Rattle.fabric.specs.Grids.{IsGrid};
 ghost use Rattle.fabric.specs.Pairs.{FindsPair};
 
 use crate::rule::RouteRule;
+use crate::table::NONE;
 use fabric::Pair;
 
 mod makes;
@@ -87,7 +88,7 @@ impl RouteRule for Grid {
     fn lane(&self, source: u8, destination: u8) -> u8 {
         match self.pair(source, destination) {
             Some(_) => 0,
-            None => 255,
+            None => NONE,
         }
     }
 }

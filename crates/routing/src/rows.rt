@@ -2,6 +2,7 @@ ghost use Rattle.std.specs.Prelude.{◌+◌, ◌*◌, slice_index_or};
 ghost use Rattle.model.specs.Rules.{channel_byte};
 
 use crate::rule::RouteRule;
+use crate::table::{NONE, channel_byte};
 
 // A route rule that borrows its channels, by switch and destination, a row for each switch, and keeps every pair in one lane.
 #[derive(Clone, Copy)]
@@ -16,10 +17,7 @@ impl RouteRule for Rows<'_> {
 
     fn channel(&self, switch: u8, destination: u8) -> Option<u8> {
         let at = switch as usize * self.switches as usize + destination as usize;
-        self.channels
-            .get(at)
-            .copied()
-            .filter(|channel| *channel < 255)
+        channel_byte(self.channels.get(at).copied().unwrap_or(NONE))
     }
 
     fn lane(&self, _source: u8, _destination: u8) -> u8 {

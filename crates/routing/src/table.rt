@@ -1,6 +1,6 @@
 ghost use Rattle.std.specs.Prelude.{◌≡◌, ◌+◌, ◌*◌, ◌≤◌, length, if◌then◌else◌, vec_len, slice_index_or};
 ghost use Rattle.model.specs.Net.{is_pair};
-ghost use Rattle.model.specs.Rules.{table_rule};
+ghost use Rattle.model.specs.Rules.{channel_byte, table_rule};
 
 use crate::rule::RouteRule;
 use fabric::Pair;
@@ -20,6 +20,13 @@ pub struct Table {
     ghost full: { (vec_len channels ≡ switches * switches) × (vec_len lanes ≡ switches * switches) },
 }
 
+// The channel that a byte of a table stands for.
+pub fn channel_byte(byte: u8) -> Option<u8>
+    ensures { result ≡ channel_byte byte }
+{
+    (byte < NONE).then_some(byte)
+}
+
 // The byte of a pair in a list of a row for each switch; 255 for equal or missing switches, and past the list.
 pub fn cell(bytes: &[u8], switches: u8, row: u8, column: u8) -> u8
     ensures { result ≡ (if is_pair switches row column then slice_index_or bytes.now (row * switches + column) 255 else 255) }
@@ -35,8 +42,7 @@ impl RouteRule for Table {
     ghost maps = { λ t. table_rule t.switches t.channels.items t.lanes.items };
 
     fn channel(&self, switch: u8, destination: u8) -> Option<u8> {
-        let channel = cell(&self.channels, self.switches, switch, destination);
-        (channel < NONE).then_some(channel)
+        channel_byte(cell(&self.channels, self.switches, switch, destination))
     }
 
     fn lane(&self, source: u8, destination: u8) -> u8 {

@@ -1,6 +1,6 @@
 ghost use Rattle.std.specs.Prelude.{◌<◌};
 
-// The place of a slot.
+// The place of a slot. Another type than a sender slot's, so that neither is taken for the other.
 #[derive(Clone, Copy)]
 pub struct SlotPlace {
     pub channel: u8,

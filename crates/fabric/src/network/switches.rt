@@ -12,7 +12,7 @@ use graph::Graph;
 
 impl Fabric {
     // Whether some channel goes from the one switch to the other.
-    // Apart from `leads`, since a chain is found only where the clause has the chain's own form.
+    // Not in `leads` itself: the proof of a chain is found only under a clause that is a chain too.
     fn has_channel(&self, from: u32, to: u32) -> bool
         ensures { result ≡ list_any (λ c. goes from to (plain c)) self.now.channels.items }
     {

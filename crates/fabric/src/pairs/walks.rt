@@ -39,7 +39,7 @@ impl Iterator for Pairs {
     #[tactic(auto, using(crate::proofs::Pairing::pairs_more))]
     fn next(&mut self) -> Option<Pair> {
         let width = self.switches as u16;
-        // By cells: of two loops, one in the other, the place is no plainer to keep from one call to the next.
+        // By cells, since the next pair may stand in the middle of a row or at the start of another.
         for cell in self.cell..width * width {
             let source = (cell / width) as u8;
             let destination = (cell % width) as u8;

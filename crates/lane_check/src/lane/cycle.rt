@@ -50,6 +50,7 @@ fn write_round<G: Graph>(lane: &G, round: &Round, cycle: &mut [u8]) -> u8
 {
     let mut at = round.last;
     cycle[round.hops as usize] = at as u8;
+    // Backward, since each channel is found by the one after it.
     for left in (0..round.hops).rev() {
         at = before(lane, &round.row, left, at);
         cycle[left as usize] = at as u8;

@@ -18,7 +18,7 @@ pub fn recode(heap: Global, bytes: &[u8], out: &mut [u8]) -> Result<usize, FileF
     Ok(length)
 }
 
-// Its proof needs an answer, so it stands apart: a wrong call in `write_and_decode` is refused in the source.
+// Apart from `write_and_decode`, since its proof needs help, and a slip in the call shows best where none is needed.
 fn decoded<R: RouteRule>(
     heap: Global,
     fabric: &Fabric,

@@ -66,7 +66,7 @@ impl<R: RouteRule> Setup<'_, R> {
 
     // The sender slot of a packet: that of its source, in its lane.
     pub fn sender_for(&self, packet: Packet) -> Result<SenderPlace, RuleFault>
-        requires { packet.source < 32 }
+        requires { (packet.source < 32) × (packet.destination < 32) }
         ensures { FindsSenderFor (plain_setup R.maps self.now) (packet_of packet) result }
     {
         let lane = self.rule.lane(packet.source, packet.destination);
