@@ -40,7 +40,7 @@ impl<R: RouteRule> Setup<'_, R> {
 
 // The check: whether every pair arrives, in a lane below the count, and no lane has a cycle. A yes writes the channels of lane 0, lane
 // 1 and so on to the front of the order list, each lane in its order. A cycle is written to the front of the cycle list. Every other
-// byte stays as it was.
+// byte stays as it was. The two lists are the caller's, and so two arguments.
 pub fn check<R: RouteRule>(
     fabric: &Fabric,
     lanes: u32,

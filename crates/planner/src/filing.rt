@@ -43,6 +43,7 @@ pub(crate) fn file_pairs(
     for pair in draft.fabric.pairs() {
         let no_lane = TopologyFault::NoLane(pair.source, pair.destination);
         let lane = place(draft, board, pair).ok_or(no_lane)?;
+        // By row, as the caller's table is.
         table[pair.source as usize * switches + pair.destination as usize] = lane as u8;
     }
     Ok(table)

@@ -16,6 +16,7 @@ impl RouteRule for Rows<'_> {
     ghost maps = { λ r. record { next = λ u d. channel_byte (slice_index_or r.channels.now (u * r.switches + d) 255); lane = λ _ _. r.lane } };
 
     fn channel(&self, switch: u8, destination: u8) -> Option<u8> {
+        // By row, as the caller's bytes are.
         let at = switch as usize * self.switches as usize + destination as usize;
         channel_byte(self.channels.get(at).copied().unwrap_or(NONE))
     }

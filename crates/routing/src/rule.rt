@@ -2,7 +2,7 @@ ghost use Rattle.std.specs.Prelude.{◌≡◌, ◌<◌, IfSome};
 ghost use Rattle.model.specs.Rules.{Rule};
 
 // Anything that answers two questions about switch numbers 0 to 255. Its meaning is the two maps; each answer is the map's, fit or
-// unfit, and no question changes them.
+// unfit, and no question changes them. A rule is lent beside its fabric and not in one struct with it: many rules are asked of one fabric.
 pub trait RouteRule {
     ghost maps: { Self → Rule };
 

@@ -34,6 +34,7 @@ pub fn cell(bytes: &[u8], switches: u8, row: u8, column: u8) -> u8
     if Pair::of(switches, u32::from(row), u32::from(column)).is_none() {
         return NONE;
     }
+    // By row, as the caller's bytes are.
     let at = row as usize * switches as usize + column as usize;
     bytes.get(at).copied().unwrap_or(NONE)
 }
