@@ -73,7 +73,7 @@ fn draft_table<'a>(fabric: &'a Fabric, given: Option<&[u8]>) -> Result<Draft<'a>
     }
 }
 
-// Copies a table to the front of a list.
+// Copies a table to the front of a list: the library's copy with a clause, which is no plainer shared with the check.
 fn write_front(table: &[u8], list: &mut [u8])
     requires { length table.now ≤ length list.old }
     ensures { list.new ≡ table.now ++ drop (length table.now) list.old }
