@@ -97,11 +97,11 @@ links_inside n i (a ∷ (b ∷ ends)) h = at (links_inside n (i + 1) ends inner.
     at rest (suc zero) l = (b_in, a_in, λ e. eqb-false a b inner.0 (sym e))
     at rest (suc (suc c)) l = rest c (omega arith)
 
-inside : (n : ℕ) (ends : List ℕ) → cabling_refusal n ends ≡ None → Inside n (channels_of ends)
+pub inside : (n : ℕ) (ends : List ℕ) → cabling_refusal n ends ≡ None → Inside n (channels_of ends)
 inside n ends h = links_inside n 0 ends (links_pass n ends h)
 
 -- two channels a link
-channel_count_lem : (ends : List ℕ) → length ends % 2 ≡ 0 → length (channels_of ends) ≡ length ends
+pub channel_count_lem : (ends : List ℕ) → length ends % 2 ≡ 0 → length (channels_of ends) ≡ length ends
 channel_count_lem [] h = refl
 channel_count_lem (a ∷ []) h = absurd (omega arith)
 channel_count_lem (a ∷ (b ∷ ends)) h = omega (arith, channel_count_lem ends (omega arith))
@@ -112,7 +112,7 @@ starts_of [] h = refl
 starts_of (a ∷ []) h = absurd (omega arith)
 starts_of (a ∷ (b ∷ ends)) h = ap (λ (z : List ℕ). a ∷ (b ∷ z)) (starts_of ends (omega arith))
 
-linked : (ends : List ℕ) → length ends % 2 ≡ 0 → Linked (channels_of ends)
+pub linked : (ends : List ℕ) → length ends % 2 ≡ 0 → Linked (channels_of ends)
 linked ends h =
     let e : channels_of (starts (channels_of ends)) ≡ channels_of ends = ap (λ (z : List ℕ). channels_of z) (starts_of ends h) in
     (ap (λ (z : List Channel). starts z) e, ap (λ (z : List Channel). finishes z) e)

@@ -18,7 +18,7 @@ use Rattle.fabric.specs.declared.network.Fabric.{Fabric}
 use Rattle.fabric.specs.declared.channel.Channel.{Channel}
 
 -- stands where a channel is missing
-abbrev blank : Channel
+abbrev pub blank : Channel
 blank = record { start = 0; finish = 0 }
 
 -- the fabric of these channels
@@ -28,11 +28,11 @@ net_over n xs = record { switches = n; channels = map plain xs }
 pub count_over : (n : ℕ) (xs : List Channel) → count (net_over n xs) ≡ length xs
 count_over n xs = length-map xs plain
 
-finish_over : (n c : ℕ) (xs : List Channel) → c < length xs → finish_of (net_over n xs) c ≡ (get_or xs c blank).finish
+pub finish_over : (n c : ℕ) (xs : List Channel) → c < length xs → finish_of (net_over n xs) c ≡ (get_or xs c blank).finish
 finish_over n c xs h = ap (λ (x : Rattle.model.specs.Net.Channel). x.finish) (get_or-map plain xs c blank nowhere h)
 
 -- the feeders, where the first channel has number i
-abbrev feeders_from : ℕ → ℕ → List Channel → List ℕ
+abbrev pub feeders_from : ℕ → ℕ → List Channel → List ℕ
 feeders_from u i xs = map (λ (p : ℕ × Channel). p.0) (filter (λ (p : ℕ × Channel). p.1.finish == u) (enumerate_from i xs))
 
 feeders_are : (u : ℕ) (xs : List Channel) → feeders u xs ≡ feeders_from u 0 xs
@@ -75,7 +75,7 @@ kept net c i (x ∷ xs) h at =
     ap (λ (k : ℕ). keep (λ y. feeds net y c) (map over (up_from (length xs) k))) (sym (add-one i)) ∙ more in
     simp (h, here, next) (sym (map_one over (x.finish == u) i (feeders_from u (i + 1) xs))) ∙ sym (ap (map over) (feeders_more u i x xs))
 
-positions_are : (n c : ℕ) (xs : List Channel) → c < length xs
+pub positions_are : (n c : ℕ) (xs : List Channel) → c < length xs
     → positions (net_over n xs) c ≡ sender ∷ map over (feeders (start_of (net_over n xs) c) xs)
 positions_are n c xs h =
     let e = count_over n xs in
@@ -86,7 +86,7 @@ positions_are n c xs h =
     simp l (ap (λ (z : List Position). sender ∷ z) q)
 
 -- a channel that does not exist has none
-positions_none : (net : Net) (c : ℕ) → count net ≤ c → positions net c ≡ []
+pub positions_none : (net : Net) (c : ℕ) → count net ≤ c → positions net c ≡ []
 positions_none net c h = let l : ltb c (count net) ≡ false = le-ltb c (count net) h in simp l (dropped (map over (up_from (count net) 0)) l)
   where
     fed : (x : Position) → nat_lt c (count net) ≡ false → feeds net x c ≡ false

@@ -10,7 +10,7 @@ use Rattle.fabric.specs.Channels.{Inside}
 abbrev pub goes : ℕ → ℕ → Channel → Bool
 goes u v c = c.start == u && c.finish == v
 
-not_both : (a b u v : ℕ) → (a ≡ u → b ≢ v) → (a == u && b == v) ≡ false
+pub not_both : (a b u v : ℕ) → (a ≡ u → b ≢ v) → (a == u && b == v) ≡ false
 not_both a b u v ne = by (a == u) (b == v) refl refl
   where
     by : (p q : Bool) → (a == u) ≡ p → (b == v) ≡ q → (p && q) ≡ false

@@ -3,6 +3,7 @@
 ghost use Rattle.std.specs.Prelude.{◌+◌, ◌*◌, slice_index_or};
 ghost use Rattle.model.specs.Rules.{channel_byte};
 
+use anyhow::anyhow;
 use fabric::Fabric;
 use lane_check::check;
 use routing::RouteRule;
@@ -68,7 +69,9 @@ fn deliver_by<'a, R: RouteRule>(
 ) -> anyhow::Result<()> {
     report_check(rt, fabric, rule)?;
     let mut answers = [Answer::Taken; 9];
-    Run::replay(fabric, 1, rule, &REQUESTS, &mut answers)?;
+    Run::replay(fabric, 1, rule, &REQUESTS, &mut answers).map_err(|_| anyhow!(
+        "the run is refused"
+    ))?;
     for answer in answers {
         println!(rt; "{answer}")?;
     }
@@ -77,8 +80,10 @@ fn deliver_by<'a, R: RouteRule>(
 
 // The same packet by a stored table and by a rule that borrows its channels.
 fn main(rt: HostRuntime) -> anyhow::Result<()> {
-    let fabric = Fabric::new(rt.alloc(), 4, &ENDS)?;
-    let table = Table::new(rt.alloc(), &fabric, &CHANNELS, &LANES)?;
+    let fabric = Fabric::new(rt.alloc(), 4, &ENDS).map_err(|_| anyhow!("no fabric"))?;
+    let table = Table::new(rt.alloc(), &fabric, &CHANNELS, &LANES).map_err(|_| anyhow!(
+        "no table"
+    ))?;
     rt.println("by a stored table")?;
     deliver_by(&rt, &fabric, &table)?;
     rt.println("by borrowed rows")?;

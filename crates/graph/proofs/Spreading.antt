@@ -51,7 +51,7 @@ next e n a r xs ys c s x =
     bound v k q = grind (arith, s.bound)
 
 -- a walk to a node is at least as long as the row says, once every edge is followed
-lower : (e : ℕ → ℕ → Bool) (n a r : ℕ) (xs : List (Option ℕ)) → Sound e n a (r + 1) xs → ((v k : ℕ) → row_at xs v ≡ Some k → k ≤ r) → (j v : ℕ) → v < n → Walk e n a j v → IsSomeAnd (row_at xs v) (λ k. k ≤ j)
+pub lower : (e : ℕ → ℕ → Bool) (n a r : ℕ) (xs : List (Option ℕ)) → Sound e n a (r + 1) xs → ((v k : ℕ) → row_at xs v ≡ Some k → k ≤ r) → (j v : ℕ) → v < n → Walk e n a j v → IsSomeAnd (row_at xs v) (λ k. k ≤ j)
 lower e n a r xs s low zero v h w = rw (← w, s.begun) (omega arith)
 lower e n a r xs s low (suc j) v h w =
     let ih = lower e n a r xs s low j w.0 w.1 w.2 in

@@ -1,3 +1,4 @@
+pub mod Apart
 pub mod Listing
 pub mod Adding
 pub mod Sorting

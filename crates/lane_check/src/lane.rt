@@ -1,3 +1,5 @@
 pub(crate) mod cycle;
 pub mod noting;
 pub(crate) mod order;
+
+pub use routing::Dependencies;

@@ -7,6 +7,9 @@ use Rattle.model.specs.Waits.{turn_cost, largest, total}
 use Rattle.model.proofs.Holding.{largest_one, largest_least, largest_met}
 use Rattle.patience.specs.Caps.{capped, heaviest}
 
+pub capped_add : (a b : ℕ) → capped (capped a + b) ≡ capped (a + b)
+capped_add a b = omega arith
+
 -- a turn's cost by a hold that is only told
 pub capped_turn : (k h : ℕ) → capped (turn_cost k (capped h)) ≡ capped (turn_cost k h)
 capped_turn zero h = ap capped (zero-mul (capped h + 1) ∙ sym (zero-mul (h + 1)))

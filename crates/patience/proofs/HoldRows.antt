@@ -1,5 +1,5 @@
 -- Rows of slots, whose holds are followed over one dependency more.
-use Rattle.std.proofs.Common.{◌≡◌, ℕ, zero, suc, ◌+◌, ◌<◌, ◌≤◌, Bool, true, List, sym, refl, ap, ◌∙◌, add-one, arith}
+use Rattle.std.proofs.Common.{◌≡◌, ℕ, zero, suc, ◌+◌, ◌<◌, Bool, true, List, sym, refl, ap, ◌∙◌, add-one}
 use mathlib.Core.Path.{fun_ext}
 use Rattle.model.specs.Routes.{Edge, has}
 use Rattle.model.specs.Waits.{turn_cost, hold_from}
@@ -8,14 +8,14 @@ use Rattle.patience.specs.Caps.{capped, heaviest, slot_at, costs, Row, hold_on, 
 use Rattle.patience.proofs.Capping.{capped_turn, heaviest_same, heaviest_more, largest_heaviest}
 
 -- one dependency more
-pub followed_more : (k : ℕ → ℕ) (e : ℕ → ℕ → Bool) (n m : ℕ) (xs ys : List Slot) → n ≤ 128 → Row (followed k e n m) xs
-    → Row (λ c. record { positions = (slot_at xs c).positions; hold = heaviest (costs xs) (e c) n }) ys → Row (followed k e n (m + 1)) ys
-followed_more k e n m xs ys few r more c l =
+pub followed_more : (k : ℕ → ℕ) (e : ℕ → ℕ → Bool) (n m : ℕ) (xs ys : List Slot) → Row (followed k e n m) n xs
+    → Row (λ c. record { positions = (slot_at xs c).positions; hold = heaviest (costs xs) (e c) n }) n ys → Row (followed k e n (m + 1)) n ys
+followed_more k e n m xs ys r more c l =
     more c l
     ∙ ap (λ (p : Slot). record { positions = p.positions; hold = heaviest (costs xs) (e c) n }) (r c l)
     ∙ ap (λ (h : ℕ). record { positions = k c; hold = h })
     (heaviest_more (costs xs) (λ x. turn_cost (k x) (hold_on k e n m x)) (e c) n
-    (λ x h. ap (λ (p : Slot). capped (turn_cost p.positions p.hold)) (r x (omega arith)) ∙ capped_turn (k x) (hold_on k e n m x))
+    (λ x h. ap (λ (p : Slot). capped (turn_cost p.positions p.hold)) (r x h) ∙ capped_turn (k x) (hold_on k e n m x))
     ∙ ap (λ (j : ℕ). capped (hold_on k e n j c)) (sym (add-one m)))
 
 -- the holds of a list of dependencies between channels below n

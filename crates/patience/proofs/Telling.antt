@@ -1,5 +1,5 @@
 -- What is told of a pair's patience, and that the rest is as the check does it.
-use Rattle.std.proofs.Common.{◌≡◌, ℕ, ◌+◌, ◌-◌, ◌≤◌, Bool, true, List, length, Ok, Err, Result, sym, refl, ap, ◌∙◌, subst, arith}
+use Rattle.std.proofs.Common.{◌≡◌, ℕ, ◌+◌, ◌-◌, Bool, true, List, length, Ok, Err, Result, sym, refl, ap, ◌∙◌, subst, arith}
 use Rattle.std.specs.Bool.{MatchBool}
 use Rattle.model.specs.Net.{count, is_pair}
 use Rattle.model.specs.Positions.{position_count}
@@ -19,10 +19,10 @@ use Rattle.patience.proofs.Capping.{capped_turn, total_told}
 use Rattle.patience.proofs.HoldRows.{hold_is, hold_by}
 
 pub tells : (g : Setup) (s d n w : ℕ) (e : ℕ → ℕ → Bool) (slots : List Slot) → n ≡ count g.net
-    → ((b c : ℕ) → e b c ≡ depends g.net g.rule (g.rule.lane s d) b c) → n ≤ 128
-    → Row (followed (position_count g.net) e n n) slots
+    → ((b c : ℕ) → e b c ≡ depends g.net g.rule (g.rule.lane s d) b c)
+    → Row (followed (position_count g.net) e n n) n slots
     → w ≡ capped (1 + total (costs slots) (route g.net g.rule s d)) → w ≡ capped (patience g s d)
-tells g s d n w e slots q same few r t =
+tells g s d n w e slots q same r t =
     let N : ℕ = count g.net in
     let k : ℕ → ℕ = position_count g.net in
     let ℓ : ℕ = g.rule.lane s d in
@@ -30,7 +30,7 @@ tells g s d n w e slots q same few r t =
     λ c. ap (λ (m : ℕ). hold_on k e m m c) q ∙ hold_by k e (has (lane_deps g.net g.rule ℓ)) N N c same
     ∙ hold_is k N (lane_deps g.net g.rule ℓ) (deps_inside g.net g.rule ℓ) N c in
     t ∙ total_told (costs slots) (λ c. turn_cost (k c) (hold g ℓ c)) N 1 (route g.net g.rule s d)
-    (λ c l. ap (λ (p : Slot). capped (turn_cost p.positions p.hold)) (r c (omega arith)) ∙ capped_turn (k c) (hold_on k e n n c)
+    (λ c l. ap (λ (p : Slot). capped (turn_cost p.positions p.hold)) (r c (omega (arith, q))) ∙ capped_turn (k c) (hold_on k e n n c)
     ∙ ap (λ (h : ℕ). capped (turn_cost (k c) h)) (held c))
     (walk_exists g.net g.rule (g.net.switches - 1) s d)
 

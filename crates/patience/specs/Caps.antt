@@ -11,9 +11,9 @@ capped x = min x 4294967295
 abbrev pub slot_at : List Slot → ℕ → Slot
 slot_at xs c = slice_index_or xs c (record { positions = 0; hold = 0 })
 
--- A row holds f of each of 128 channels.
-abbrev pub Row : (ℕ → Slot) → List Slot → Type 0
-Row f xs = (c : ℕ) → c < 128 → slot_at xs c ≡ f c
+-- A row holds f of each channel below n.
+abbrev pub Row : (ℕ → Slot) → ℕ → List Slot → Type 0
+Row f n xs = (c : ℕ) → c < n → slot_at xs c ≡ f c
 
 -- The turn cost of each channel of a row, as far as it is told.
 abbrev pub costs : List Slot → ℕ → ℕ

@@ -1,4 +1,4 @@
-ghost use Rattle.std.specs.Prelude.{◌≡◌};
+ghost use Rattle.std.specs.Prelude.{◌≡◌, ◌<◌};
 ghost use Rattle.model.specs.Positions.{position_count};
 ghost use Rattle.model.specs.Waits.{turn_cost};
 ghost use Rattle.fabric.specs.Of.{net};
@@ -34,19 +34,31 @@ fn next_hold<G: Graph>(lane: &G, slots: &[Slot; 128], channel: u32) -> u32
         .fold(1, u32::max)
 }
 
+// A slot with its hold followed over one dependency more. Past the lane's channels nothing is asked, and it stays.
+fn next_slot<G: Graph>(lane: &G, slots: &[Slot; 128], channel: u32) -> Slot
+    requires { channel < 128 }
+    ensures { channel < G.nodes lane.now → result ≡ record { positions = (slot_at slots.now channel).positions; hold = heaviest (costs slots.now) (G.edge lane.now channel) (G.nodes lane.now) } }
+{
+    let slot = slots[channel as usize];
+    if channel >= lane.node_count() {
+        return slot;
+    }
+    Slot {
+        hold: next_hold(lane, slots, channel),
+        ..slot
+    }
+}
+
 // The slots with their holds followed over one dependency more.
 fn next_slots<G: Graph>(lane: &G, slots: &[Slot; 128]) -> [Slot; 128]
-    ensures { Row (λ c. record { positions = (slot_at slots.now c).positions; hold = heaviest (costs slots.now) (G.edge lane.now c) (G.nodes lane.now) }) result }
+    ensures { Row (λ c. record { positions = (slot_at slots.now c).positions; hold = heaviest (costs slots.now) (G.edge lane.now c) (G.nodes lane.now) }) (G.nodes lane.now) result }
 {
-    array::from_fn(|channel| Slot {
-        positions: slots[channel].positions,
-        hold: next_hold(lane, slots, channel as u32),
-    })
+    array::from_fn(|channel| next_slot(lane, slots, channel as u32))
 }
 
 // The slots of a lane's channels.
 pub(crate) fn slots_of<G: Graph>(fabric: &Fabric, lane: &G) -> [Slot; 128]
-    ensures { Row (followed (position_count (net fabric.now)) (G.edge lane.now) (G.nodes lane.now) (G.nodes lane.now)) result }
+    ensures { Row (followed (position_count (net fabric.now)) (G.edge lane.now) (G.nodes lane.now) (G.nodes lane.now)) (G.nodes lane.now) result }
 {
     let mut slots = array::from_fn(|channel| Slot {
         positions: fabric.position_count(channel as u32),

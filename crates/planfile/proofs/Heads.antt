@@ -7,8 +7,12 @@ use Rattle.planfile.specs.Contents.{wide}
 use Rattle.planfile.specs.File.{entry_bytes}
 
 -- the bytes of a list, one by one
-four : (s : List ℕ) → length s ≡ 4 → s ≡ get_or s 0 0 ∷ get_or s 1 0 ∷ get_or s 2 0 ∷ get_or s 3 0 ∷ []
+pub four : (s : List ℕ) → length s ≡ 4 → s ≡ get_or s 0 0 ∷ get_or s 1 0 ∷ get_or s 2 0 ∷ get_or s 3 0 ∷ []
 four s h = fill_by_all (λ (k : ℕ). get_or s k 0) s 4 0 h (λ k l. refl)
+
+eight : (s : List ℕ) → length s ≡ 8
+    → s ≡ get_or s 0 0 ∷ get_or s 1 0 ∷ get_or s 2 0 ∷ get_or s 3 0 ∷ get_or s 4 0 ∷ get_or s 5 0 ∷ get_or s 6 0 ∷ get_or s 7 0 ∷ []
+eight s h = fill_by_all (λ (k : ℕ). get_or s k 0) s 8 0 h (λ k l. refl)
 
 -- the eight bytes of an entry are those of what it holds
 entry_back : (bs : List ℕ) (at : ℕ) → at + 8 ≤ length bs → ((i : ℕ) → get_or bs i 0 < 256)
@@ -37,3 +41,15 @@ pub cut : (bs : List ℕ) (at k j : ℕ) → at + k ≡ j → drop at bs ≡ tak
 cut bs at k j e =
     sym (take-append-drop k (drop at bs))
     ∙ ap (λ (z : List ℕ). take k (drop at bs) ++ z) (drop-drop k at bs ∙ ap (λ (z : ℕ). drop z bs) e)
+
+-- three entries, byte by byte
+pub three : (w x y : List ℕ) → length w ≡ 8 → length x ≡ 8 → length y ≡ 8
+    → 3 ∷ get_or w 0 0 ∷ get_or w 1 0 ∷ get_or w 2 0 ∷ get_or w 3 0 ∷ get_or w 4 0 ∷ get_or w 5 0 ∷ get_or w 6 0 ∷ get_or w 7 0
+    ∷ get_or x 0 0 ∷ get_or x 1 0 ∷ get_or x 2 0 ∷ get_or x 3 0 ∷ get_or x 4 0 ∷ get_or x 5 0 ∷ get_or x 6 0 ∷ get_or x 7 0
+    ∷ get_or y 0 0 ∷ get_or y 1 0 ∷ get_or y 2 0 ∷ get_or y 3 0 ∷ get_or y 4 0 ∷ get_or y 5 0 ∷ get_or y 6 0 ∷ get_or y 7 0 ∷ []
+    ≡ 3 ∷ (w ++ (x ++ y))
+three w x y a b c =
+    let front : List ℕ = get_or w 0 0 ∷ get_or w 1 0 ∷ get_or w 2 0 ∷ get_or w 3 0 ∷ get_or w 4 0 ∷ get_or w 5 0 ∷ get_or w 6 0 ∷ get_or w 7 0 ∷ [] in
+    let next : List ℕ = get_or x 0 0 ∷ get_or x 1 0 ∷ get_or x 2 0 ∷ get_or x 3 0 ∷ get_or x 4 0 ∷ get_or x 5 0 ∷ get_or x 6 0 ∷ get_or x 7 0 ∷ [] in
+    sym (ap (λ (z : List ℕ). 3 ∷ (z ++ (x ++ y))) (eight w a) ∙ ap (λ (z : List ℕ). 3 ∷ (front ++ (z ++ y))) (eight x b)
+    ∙ ap (λ (z : List ℕ). 3 ∷ (front ++ (next ++ z))) (eight y c))

@@ -13,6 +13,17 @@ pub enum Part {
 }
 
 impl Part {
+    // The number of its entry, and of its body.
+    pub fn number(self) -> u8
+        ensures { result ≡ part_number self }
+    {
+        match self {
+            Part::Link => 0,
+            Part::Hops => 1,
+            Part::Lane => 2,
+        }
+    }
+
     // The tag of its entry.
     pub(crate) fn tag(self) -> [u8; 4]
         ensures { result ≡ tag_of (part_number self) }

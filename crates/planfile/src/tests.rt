@@ -48,6 +48,14 @@ fn edition(rt: HostRuntime) {
     assert_eq!(rt; FileFault::Form.number(), Some(15));
 }
 
+#[test]
+fn parts(rt: HostRuntime) {
+    assert_eq!(rt;
+        [Part::Link, Part::Hops, Part::Lane].map(Part::number),
+        [0, 1, 2]
+    );
+}
+
 // The plan of four switches in a ring, with one lane.
 const RING: [u8; 67] =
     *b"\x03LINK\x00\x19\x00\x09HOPS\x00\x22\x00\x10LANE\x00\x32\x00\x11\x04\x00\x01\x01\x02\x02\x03\x03\x00\xff\x00\x00\x07\x01\xff\x02\x01\x03\x03\xff\x04\x06\x05\x05\xff\x01\xff\x00\x00\x00\x00\xff\x00\x00\x00\x00\xff\x00\x00\x00\x00\xff";

@@ -1,12 +1,12 @@
 -- A square of n rows of n cells is one list of n × n cells: cell i stands in row i / n and column i % n.
-use Rattle.std.proofs.Common.{◌≡◌, ℕ, zero, suc, ◌+◌, ◌*◌, ◌/◌, ◌%◌, ◌<◌, ◌≤◌, Bool, true, false, eqb, List, [], ◌∷◌, ◌++◌, map, length, get_or, if◌then◌else◌, ◌&&◌, not, ltb, sym, refl, ap, ◌∙◌, inl, inr, arith}
+use Rattle.std.proofs.Common.{◌≡◌, ℕ, zero, suc, ◌+◌, ◌*◌, ◌/◌, ◌%◌, ◌<◌, ◌≤◌, Bool, true, false, cond, eqb, List, [], ◌∷◌, ◌++◌, map, length, get_or, if◌then◌else◌, ◌&&◌, not, ltb, sym, refl, ap, ◌∙◌, inl, inr, arith}
 use Rattle.std.specs.List.{range_with_len}
 use Rattle.std.proofs.lemmas.Nat.{div-add-mod'}
 use Rattle.std.proofs.lemmas.List.{same_lists, get_or-map, length-map, length_push}
 use Rattle.std.proofs.lemmas.List.FromFn.{get_or-range_with_len, get_or-map-range_with_len, length-map-range_with_len, map-range_with_len_more}
 use Rattle.std.proofs.lemmas.Bool.{cases_eq, eq-eqb, ne_eqb, and_right, cond-true, cond-false}
 use Rattle.std.proofs.Math.Nat.{mod-lt}
-use Rattle.model.specs.Lists.{up_from, below}
+use Rattle.model.specs.Lists.{up_from, below, keep, joined}
 use Rattle.model.specs.Net.{is_pair}
 use Rattle.model.specs.Planner.{square}
 use Rattle.model.proofs.Members.{length-up_from}
@@ -19,6 +19,19 @@ use Rattle.planner.specs.Rows.{Gives}
 pub up_from_range : (k i : ℕ) → up_from k i ≡ range_with_len i k
 up_from_range zero i = refl
 up_from_range (suc k) i = let j : suc i ≡ i + 1 = omega arith in ap (λ z. i ∷ z) (up_from_range k (suc i) ∙ ap (λ (j : ℕ). range_with_len j k) j)
+
+map_joined : {A B : Type 0} (g : A → B) (xs : List A) → map g xs ≡ joined (λ x. g x ∷ []) xs
+map_joined g [] = refl
+map_joined g (x ∷ xs) = ap (λ z. g x ∷ z) (map_joined g xs)
+
+kept_joined : {A B : Type 0} (g : A → B) (t : A → Bool) (xs : List A) → map g (keep t xs) ≡ joined (λ x. cond (t x) (g x ∷ []) []) xs
+kept_joined g t [] = refl
+kept_joined {A} {B} g t (x ∷ xs) = go (kept_joined g t xs) (t x)
+  where
+    go : map g (keep t xs) ≡ joined (λ x. cond (t x) (g x ∷ []) []) xs
+        → (b : Bool) → map g (cond b (x ∷ keep t xs) (keep t xs)) ≡ cond b (g x ∷ []) [] ++ joined (λ x. cond (t x) (g x ∷ []) []) xs
+    go ih true = ap (λ z. g x ∷ z) ih
+    go ih false = ih
 
 module _ (n : ℕ) (f : ℕ → ℕ → ℕ) where
   abbrev byte : ℕ → ℕ → ℕ

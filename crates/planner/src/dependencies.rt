@@ -1,4 +1,4 @@
-ghost use Rattle.std.specs.Prelude.{◌<◌, ◌≢◌};
+ghost use Rattle.std.specs.Prelude.{◌≡◌, ◌<◌, ◌≢◌};
 ghost use Rattle.model.specs.Net.{count};
 ghost use Rattle.fabric.specs.Of.{net};
 ghost use Rattle.routing.specs.Dependencies.{leads};
@@ -18,7 +18,8 @@ fn admit(lane: &mut Dependencies, step: Step) -> bool
     requires to { step.head < lane.old.channels }
     requires apart { step.tail ≢ step.head }
     requires free { Acyclic (leads lane.old) lane.old.channels }
-    ensures { Admits step.tail step.head lane.old lane.new result }
+    ensures size { lane.new.channels ≡ lane.old.channels }
+    ensures admits { Admits step.tail step.head lane.old lane.new result }
 {
     let tail = step.tail as u32;
     let head = step.head as u32;
@@ -35,7 +36,8 @@ fn admit(lane: &mut Dependencies, step: Step) -> bool
 // Adds the dependencies of the route of a pair, as far as none closes a cycle.
 fn add_route(draft: &Draft, lane: &mut Dependencies, pair: Pair) -> bool
     requires { Sound (count (net draft.now.fabric.now)) lane.old }
-    ensures { Tried (count (net draft.now.fabric.now)) (needs draft.now pair) lane.old lane.new result }
+    ensures size { lane.new.channels ≡ lane.old.channels }
+    ensures tried { Tried (count (net draft.now.fabric.now)) (needs draft.now pair) lane.old lane.new result }
 {
     for step in Steps::of(draft.fabric, draft, pair) {
         if !admit(lane, step) {

@@ -1,5 +1,5 @@
 -- The links of every grid make a fabric: one test over all sizes.
-use Rattle.std.proofs.Common.{◌≡◌, ℕ, ◌*◌, ◌≤◌, Bool, true, cond, ◌&&◌, leb, List, Some, None, Option, sym, refl, ◌∙◌, arith}
+use Rattle.std.proofs.Common.{◌≡◌, ℕ, ◌*◌, ◌≤◌, Bool, true, cond, ◌&&◌, leb, List, Some, None, Option, sym, refl, ap, ◌∙◌, arith}
 use Rattle.std.proofs.lemmas.Bool.{and_from, le-leb, cond-true}
 use Rattle.std.proofs.lemmas.Grind.{common_steps}
 use Rattle.std.specs.Option.{is_none}
@@ -31,7 +31,13 @@ grid_cabled w h g =
     let size : (leb 2 (w * h) && leb (w * h) 32) ≡ true = and_from _ _ (le-leb 2 (w * h) g.2) (le-leb (w * h) 32 g.3) in
     none _ (sym (cond-true _ _ _ size) ∙ at-h)
 
--- so a fault of its fabric is no refusal
+-- so what would refuse them is nothing
+pub grid_passes : (w h n : ℕ) (ends : List ℕ) (r : Option Refusal) → IsGrid w h → n ≡ w * h → ends ≡ grid_ends w h
+    → r ≡ cabling_refusal n ends → r ≡ None
+grid_passes w h n ends r g p q e =
+    e ∙ ap (λ (k : ℕ). cabling_refusal k ends) p ∙ ap (λ (xs : List ℕ). cabling_refusal (w * h) xs) q ∙ grid_cabled w h g
+
+-- and a fault of its fabric is no refusal
 pub grid_fault : (e : FabricFault) (w h n : ℕ) (ends : List ℕ) → fabric_refusal e ≡ cabling_refusal n ends → n ≡ w * h → ends ≡ grid_ends w h → IsGrid w h
     → fabric_refusal e ≡ None
-grid_fault e w h n ends q a b g = let c = grid_cabled w h g in cc
+grid_fault e w h n ends q a b g = grid_passes w h n ends (fabric_refusal e) g a b q

@@ -1,4 +1,5 @@
 pub mod Cells
+pub mod Sides
 pub mod GridEnds
 pub mod GridLinks
 pub mod Walking

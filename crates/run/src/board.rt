@@ -1,4 +1,4 @@
-ghost use Rattle.std.specs.Prelude.{◌≡◌};
+ghost use Rattle.std.specs.Prelude.{◌≡◌, OnErr};
 ghost use Rattle.std.specs.Option.{option_map};
 ghost use Rattle.model.specs.State.{empty, with_slot, with_mark, with_sender};
 ghost use Rattle.run.specs.Words.{packet_of};
@@ -77,7 +77,8 @@ impl Board {
 
     // Puts a packet into its sender slot, unless that is taken.
     pub fn admit(&mut self, at: SenderPlace, packet: Packet) -> Result<(), CallFault>
-        ensures { Admits (view self.old) at (packet_of packet) (view self.new) result }
+        ensures admits { Admits (view self.old) at (packet_of packet) (view self.new) result }
+        ensures same { OnErr result (self.new ≡ self.old) }
     {
         if self.sender(at).is_some() {
             return Err(CallFault::SenderTaken);

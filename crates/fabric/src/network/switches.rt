@@ -13,10 +13,10 @@ use graph::Graph;
 impl Fabric {
     // Whether some channel goes from the one switch to the other.
     // Not in `leads` itself: the proof of a chain is found only under a clause that is a chain too.
-    fn has_channel(&self, from: u32, to: u32) -> bool
+    fn has_channel(&self, from: u8, to: u8) -> bool
         ensures { result ≡ list_any (λ c. goes from to (plain c)) self.now.channels.items }
     {
-        let joins = |channel: &Channel| channel.start as u32 == from && channel.finish as u32 == to;
+        let joins = |channel: &Channel| channel.start == from && channel.finish == to;
         self.channels.iter().any(joins)
     }
 }
@@ -35,8 +35,11 @@ impl Graph for Fabric {
         self.switch_count()
     }
 
-    #[tactic(auto, using(crate::proofs::Joining::joins_is))]
+    // By bytes, so that the search widens no channel's switches to compare them.
     fn leads(&self, from: u32, to: u32) -> bool {
-        self.has_channel(from, to)
+        if from >= 256 || to >= 256 {
+            return false;
+        }
+        self.has_channel(from as u8, to as u8)
     }
 }

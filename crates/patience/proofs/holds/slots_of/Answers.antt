@@ -8,13 +8,13 @@ use Rattle.patience.proofs.holds.slots_of.Goals as goal
 
 pub loop-more-init : goal.loop-more-init
 loop-more-init g c = λ x h.
-    let made = made_at _ _ c.from_fn-slots.result 128 c.from_fn-slots.ensures.items (λ a r q k. search rules) x (record { positions = 0; hold = 0 }) h in
+    let made = made_at _ _ c.from_fn-slots.result 128 c.from_fn-slots.ensures.items (λ a r q k. search rules) x (record { positions = 0; hold = 0 }) (omega (arith, h, (g.met.G.Graph.few c.args.lane.now).1)) in
     search rules
 
 pub loop-more-preserved : goal.loop-more-preserved
 loop-more-preserved g c =
     followed_more (position_count (net c.args.fabric.now)) (g.G.Graph.edge c.args.lane.now) (g.G.Graph.nodes c.args.lane.now) c.loop-more._more
-    c.loop-more.slots c.next_slots-slots.result (g.met.G.Graph.few c.args.lane.now).1 c.loop-more.invariant c.next_slots-slots.ensures
+    c.loop-more.slots c.next_slots-slots.result c.loop-more.invariant c.next_slots-slots.ensures
 
 pub returns : goal.returns
 returns g c = λ x h.

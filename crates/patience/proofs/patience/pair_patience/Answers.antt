@@ -11,5 +11,5 @@ returns g c = λ lanes.
     let d = c.dependencies.result in
     let D = c.dependencies.ensures in
     tells G c.args.pair.source c.args.pair.destination d.channels c.route_cost.result (leads d) c.slots_of-slots.result D.size
-    (λ b x. D.each b x ∙ ap (λ (ℓ : ℕ). depends G.net G.rule ℓ b x) (c.from-lane.ensures ∙ c.lane.ensures)) d.few.1
+    (λ b x. D.each b x ∙ ap (λ (ℓ : ℕ). depends G.net G.rule ℓ b x) (c.from-lane.ensures ∙ c.lane.ensures))
     c.slots_of-slots.ensures c.route_cost.ensures

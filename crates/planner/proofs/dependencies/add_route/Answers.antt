@@ -24,4 +24,7 @@ returns-then-not-admit c =
     let i = c.loop-step.invariant in
     let e = c.in-Some.ensures.steps in
     let q = ap (λ (f : Fabric). count (net f)) i.on in
-    noted_closes _ _ _ _ c.admit.new.lane c.in-Some.step _ (omega (arith, e.2.from, q)) (omega (arith, e.2.to, q)) (rw e.1 at i.noted) c.if-not-admit.ensures
+    record {
+      size = omega (arith, c.admit.ensures.size, i.noted.sound.size, c.requires.size);
+      tried = noted_closes _ _ _ _ c.admit.new.lane c.in-Some.step _ (omega (arith, e.2.from, q)) (omega (arith, e.2.to, q)) (rw e.1 at i.noted) c.if-not-admit.ensures.admits;
+    }

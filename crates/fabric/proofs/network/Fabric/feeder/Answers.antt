@@ -1,22 +1,16 @@
-use Rattle.std.proofs.Common.{ℕ, ◌==◌, tests, rules, vec_items}
-use Rattle.std.proofs.lemmas.Option.{slice_get-map}
-use Rattle.std.proofs.lemmas.Iterator.{YieldsList-from_slice}
-use Rattle.std.proofs.lemmas.Iterator.Consumers.{nth_from_yields_List, YieldsList-at, YieldsList-from_filter, YieldsList-from_enumerate}
+use Rattle.std.proofs.Common.{arith, sym}
+use Rattle.std.proofs.lemmas.Grind.{common_steps}
 use Rattle.fabric.specs.Channels.{feeders}
-use Rattle.fabric.specs.declared.channel.Channel.{Channel}
 use Rattle.fabric.proofs.Feeders.{feeder_ends}
 use Rattle.fabric.proofs.network.Fabric.feeder.Goals as goal
 
+pub returns-then-ahead-eq0-clause-is : goal.returns-then-ahead-eq0-clause-is
+unfolding feeders
+returns-then-ahead-eq0-clause-is c = grind (arith, common_steps)
+
 pub returns-clause-is : goal.returns-clause-is
 unfolding feeders
-returns-clause-is c =
-    rw (
-      slice_get-map,
-      ← nth_from_yields_List _ _ _ c.nth.ensures.ran
-          (YieldsList-from_filter _ (λ (p : ℕ × Channel). p.1.finish == c.args.switch)
-          (YieldsList-at c.filter.ensures.source (YieldsList-from_enumerate (YieldsList-at c.enumerate.ensures.source (YieldsList-from_slice (vec_items c.args.self.now.channels) cc)) c.enumerate.ensures.count))
-          c.filter.ensures.closure (λ x b q k. search (rules, tests))),
-    ) (search rules)
+returns-clause-is c = grind (arith, common_steps)
 
 pub returns-clause-ends : goal.returns-clause-ends
-returns-clause-ends c = rw (returns-clause-is c) (feeder_ends c.args.self.now c.args.switch c.args.place)
+returns-clause-ends c = rw (sym (returns-clause-is c)) at (feeder_ends c.args.self.now c.args.switch c.args.place)

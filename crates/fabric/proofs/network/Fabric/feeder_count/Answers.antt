@@ -1,9 +1,7 @@
-use Rattle.std.proofs.Common.{◌≡◌, ◌==◌, vec_items, count_by, rules, ◌∙◌}
-use Rattle.fabric.specs.declared.channel.Channel.{Channel}
+use Rattle.std.proofs.Common.{arith}
+use Rattle.std.proofs.lemmas.Grind.{common_steps}
 use Rattle.fabric.proofs.Feeders.{length_feeders}
 use Rattle.fabric.proofs.network.Fabric.feeder_count.Goals as goal
 
 pub returns-clause-is : goal.returns-clause-is
-returns-clause-is c =
-    let e : c.count.result ≡ count_by (λ (x : Channel). x.finish == c.args.switch) (vec_items c.args.self.now.channels) = search rules in
-    e ∙ length_feeders _ _
+returns-clause-is c = grind (arith, common_steps, length_feeders)
