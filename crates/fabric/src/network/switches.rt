@@ -36,6 +36,7 @@ impl Graph for Fabric {
     }
 
     // By bytes, so that the search widens no channel's switches to compare them.
+    #[tactic(auto, using(crate::proofs::Joining::joins_is))]
     fn leads(&self, from: u32, to: u32) -> bool {
         if from >= 256 || to >= 256 {
             return false;
