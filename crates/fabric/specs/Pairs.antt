@@ -1,5 +1,5 @@
 -- Pairs of a fabric's switches, and the order in which they come.
-use Rattle.std.specs.Prelude.{◌≡◌, ℕ, true, false, List, [], ◌∷◌, Some, None, Option}
+use Rattle.std.specs.Prelude.{◌≡◌, ℕ, ◌+◌, ◌*◌, true, false, List, [], ◌∷◌, Some, None, Option}
 use Rattle.model.specs.Net.{is_pair}
 use Rattle.model.specs.Routes.{Pair}
 use Rattle.model.specs.Pairs.{pairs_left}
@@ -15,9 +15,9 @@ abbrev pub FindsPair : ℕ → ℕ → ℕ → Option CodePair → Type 0
 FindsPair n s d None = is_pair n s d ≡ false
 FindsPair n s d (Some p) = (is_pair n s d ≡ true) × (p.source ≡ s) × (p.destination ≡ d)
 
--- The pairs still to come.
+-- The pairs still to come: those from the place of the next one on.
 abbrev pub left : Pairs → List Pair
-left x = pairs_left x.switches x.cell
+left x = pairs_left x.switches (x.source * x.switches + x.destination)
 
 -- The first of them comes, and then the others; none comes where none is left.
 abbrev pub NextPair : Pairs → Option CodePair → Pairs → Type 0

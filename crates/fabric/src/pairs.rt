@@ -1,4 +1,5 @@
-ghost use Rattle.std.specs.Prelude.{◌≤◌};
+ghost use Rattle.std.specs.Prelude.{◌≡◌, ◌≤◌, ◌<◌, true};
+ghost use Rattle.model.specs.Net.{is_pair};
 
 mod walks;
 
@@ -6,7 +7,9 @@ mod walks;
 #[derive(Clone, Copy)]
 pub struct Pairs {
     switches: u8,
-    // The cell, in a table of a row for each source, of the first pair that may come.
-    cell: u16,
-    ghost few: { (1 ≤ switches) × (switches ≤ 32) },
+    // The next pair; after the last, the source is no switch. Not a place in a table, which would be divided for each pair.
+    source: u8,
+    destination: u8,
+    ghost few: { (2 ≤ switches) × (switches ≤ 32) },
+    ghost next: { (source ≤ switches) × (source < switches → is_pair switches source destination ≡ true) },
 }

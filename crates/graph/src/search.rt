@@ -26,9 +26,11 @@ fn relax<G: Graph>(graph: &G, row: &mut [Option<u8>; 128], node: u32, round: u8)
     ensures { Relaxed (G.edge graph.now node) (G.nodes graph.now) (G.nodes graph.now) round row.old row.new result }
 {
     let mut changed = false;
-    // By number: a graph is asked by numbers, and may have fewer nodes than the row has places.
+    // By number: a graph is asked by numbers, and may have fewer nodes than the row has places. The place is copied out first: what
+    // the compiler then knows of the number spares a test in `leads`.
     for to in 0..graph.node_count() {
-        if row[to as usize].is_none() && graph.leads(node, to) {
+        let reached = row[to as usize];
+        if reached.is_none() && graph.leads(node, to) {
             row[to as usize] = Some(round + 1);
             changed = true;
         }
@@ -42,9 +44,10 @@ fn advance<G: Graph>(graph: &G, row: &mut [Option<u8>; 128], round: u8) -> bool
     ensures { Grown (G.edge graph.now) (G.nodes graph.now) round (G.nodes graph.now) row.old row.new result }
 {
     let mut changed = false;
-    // By number: the row itself is handed on.
+    // By number: the row itself is handed on. Copied out as in `relax`.
     for node in 0..graph.node_count() {
-        if row[node as usize] == Some(round) {
+        let reached = row[node as usize];
+        if reached == Some(round) {
             changed |= relax(graph, row, node, round);
         }
     }

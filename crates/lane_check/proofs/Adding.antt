@@ -7,13 +7,9 @@ use Rattle.model.specs.Net.{Net}
 use Rattle.model.specs.Rules.{Rule}
 use Rattle.model.specs.Routes.{Pair, Edge, route, steps, has}
 use Rattle.routing.specs.declared.dependencies.Dependencies.{Dependencies}
-use Rattle.routing.specs.Dependencies.{leads}
-use Rattle.lane_check.specs.Notes.{Noted}
+use Rattle.routing.specs.Dependencies.{leads, Adds}
+use Rattle.routing.proofs.Adding.{Adding}
 use Rattle.lane_check.proofs.Listing.{any_append}
-
--- With the dependencies es still to come, all have been added to those that there were.
-pub record Adding (was is : Dependencies) (all es : List Edge) : Type 0 where
-  pub each : (b c : ℕ) → (leads is b c || has es b c) ≡ (leads was b c || has all b c)
 
 module _ (net : Net) (rule : Rule) (ℓ : ℕ) where
   abbrev pub steps_of : Pair → List Edge
@@ -25,11 +21,11 @@ module _ (net : Net) (rule : Rule) (ℓ : ℕ) where
 
   -- A pair of the lane is added.
   pub adding_pair : (was is is' : Dependencies) (all : List Edge) (ps ps' : List Pair) (p : Pair) → ps ≡ p ∷ ps' → true ≡ eqb (rule.lane p.source p.destination) ℓ
-      → Noted (steps_of p) is is' → Adding was is all (deps_of ps) → Adding was is' all (deps_of ps')
+      → Adds (has (steps_of p)) is is' → Adding was is all (deps_of ps) → Adding was is' all (deps_of ps')
   adding_pair was is is' all ps ps' p q e T A =
       record {
         each = λ b c.
-            ap (λ (t : Bool). t || has (deps_of ps') b c) (T.adds b c)
+            ap (λ (t : Bool). t || has (deps_of ps') b c) (T b c)
             ∙ or_assoc (leads is b c) (has (steps_of p) b c) (has (deps_of ps') b c)
             ∙ ap (λ (t : Bool). leads is b c || t) (sym (any_append (λ x. eqb x.tail b && eqb x.head c) (steps_of p) (deps_of ps')))
             ∙ ap (λ (xs : List Edge). leads is b c || has xs b c) (sym (ap deps_of q ∙ ap (joined steps_of) (cond-true _ _ _ (sym e))))

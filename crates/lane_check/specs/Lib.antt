@@ -1,4 +1,3 @@
-pub mod Notes
 pub mod Orders
 pub mod Circles
 pub mod Findings

@@ -17,7 +17,7 @@ module _ (n : ℕ) where
   left_more k l =
       let e : n * n - k ≡ suc (n * n - suc k) = omega arith in ap (λ (z : ℕ). joined (λ j. pair_of (j / n) (j % n)) (up_from z k)) e
 
-  left_at : (s d : ℕ) → s < n → d < n → pairs_left n (s * n + d) ≡ pair_of s d ++ pairs_left n (suc (s * n + d))
+  pub left_at : (s d : ℕ) → s < n → d < n → pairs_left n (s * n + d) ≡ pair_of s d ++ pairs_left n (suc (s * n + d))
   left_at s d ls ld =
       left_more (s * n + d) (mul-add-lt s n d n ls ld)
       ∙ (ap (λ (z : ℕ). pair_of z ((s * n + d) % n) ++ pairs_left n (suc (s * n + d))) (div-mul-add s n d ld)

@@ -12,8 +12,6 @@ module _ (n : ℕ) (e : ℕ → ℕ → Bool) (was : List Dependencies) where
     pub same : is ≡ was
     pub lower : AllWithin (Refuses n e) was 0 l
 
-  -- What the lane that is tried must be.
-
   -- Another lane refuses them.
   pub refusing_more : (is : List Dependencies) (l : ℕ) (y r : Dependencies) (b : Bool) → Refusing is l → Filed n e (get_or is l r) y b → b ≡ false → l < length is
       → Refusing (set is l y) (l + 1)

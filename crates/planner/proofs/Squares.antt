@@ -1,7 +1,7 @@
 -- A square of n rows of n cells is one list of n × n cells: cell i stands in row i / n and column i % n.
-use Rattle.std.proofs.Common.{◌≡◌, ℕ, zero, suc, ◌+◌, ◌*◌, ◌/◌, ◌%◌, ◌<◌, ◌≤◌, Bool, true, false, cond, eqb, List, [], ◌∷◌, ◌++◌, map, length, get_or, if◌then◌else◌, ◌&&◌, not, ltb, sym, refl, ap, ◌∙◌, inl, inr, arith}
+use Rattle.std.proofs.Common.{◌≡◌, ℕ, zero, suc, ◌+◌, ◌*◌, ◌/◌, ◌%◌, ◌<◌, ◌≤◌, Bool, true, false, cond, eqb, List, [], ◌∷◌, ◌++◌, map, length, get_or, if◌then◌else◌, ◌&&◌, not, ltb, sym, refl, ap, ◌∙◌, inl, inr, arith, append_assoc, suc-mul, zero-mul}
 use Rattle.std.specs.List.{range_with_len}
-use Rattle.std.proofs.lemmas.Nat.{div-add-mod'}
+use Rattle.std.proofs.lemmas.Nat.{div-add-mod', div-mul-add, mod-mul-add}
 use Rattle.std.proofs.lemmas.List.{same_lists, get_or-map, length-map, length_push}
 use Rattle.std.proofs.lemmas.List.FromFn.{get_or-range_with_len, get_or-map-range_with_len, length-map-range_with_len, map-range_with_len_more}
 use Rattle.std.proofs.lemmas.Bool.{cases_eq, eq-eqb, ne_eqb, and_right, cond-true, cond-false}
@@ -20,6 +20,18 @@ pub up_from_range : (k i : ℕ) → up_from k i ≡ range_with_len i k
 up_from_range zero i = refl
 up_from_range (suc k) i = let j : suc i ≡ i + 1 = omega arith in ap (λ z. i ∷ z) (up_from_range k (suc i) ∙ ap (λ (j : ℕ). range_with_len j k) j)
 
+-- One number less is left, or none.
+pub up_from_more : (m k i : ℕ) → m ≡ suc k → up_from m i ≡ i ∷ up_from k (i + 1)
+up_from_more zero k i q = absurd (omega arith)
+up_from_more (suc m) k i q =
+    let z : m ≡ k = omega arith in
+    let j : suc i ≡ i + 1 = omega arith in
+    ap (λ (j : ℕ). i ∷ up_from j (suc i)) z ∙ ap (λ (j : ℕ). i ∷ up_from k j) j
+
+pub up_from_none : (m i : ℕ) → m ≡ 0 → up_from m i ≡ []
+up_from_none zero i q = refl
+up_from_none (suc m) i q = absurd (omega arith)
+
 map_joined : {A B : Type 0} (g : A → B) (xs : List A) → map g xs ≡ joined (λ x. g x ∷ []) xs
 map_joined g [] = refl
 map_joined g (x ∷ xs) = ap (λ z. g x ∷ z) (map_joined g xs)
@@ -32,6 +44,41 @@ kept_joined {A} {B} g t (x ∷ xs) = go (kept_joined g t xs) (t x)
         → (b : Bool) → map g (cond b (x ∷ keep t xs) (keep t xs)) ≡ cond b (g x ∷ []) [] ++ joined (λ x. cond (t x) (g x ∷ []) []) xs
     go ih true = ap (λ z. g x ∷ z) ih
     go ih false = ih
+
+-- Rows of cells joined are all cells joined, whatever list a cell gives.
+module _ {A : Type 0} (f : ℕ → ℕ → List A) (n : ℕ) where
+  abbrev cell : ℕ → List A
+  cell i = f (i / n) (i % n)
+
+  -- The rest of row s, from column d on, and what follows.
+  row : (s k d t i m : ℕ) → d + k ≡ n → i ≡ s * n + d → m ≡ k + t
+      → joined cell (up_from m i) ≡ joined (f s) (up_from k d) ++ joined cell (up_from t (i + k))
+  row s zero d t i m q e r =
+      let z : m ≡ t = omega arith in
+      let j : i ≡ i + 0 = omega arith in
+      ap (λ (m : ℕ). joined cell (up_from m i)) z ∙ ap (λ (i : ℕ). joined cell (up_from t i)) j
+  row s (suc k) d t i m q e r =
+      let here : cell i ≡ f s d =
+      ap cell e ∙ ap (λ (x : ℕ). f x ((s * n + d) % n)) (div-mul-add s n d (omega arith)) ∙ ap (λ (x : ℕ). f s x) (mod-mul-add s n d (omega arith)) in
+      let j : i + 1 + k ≡ i + suc k = omega arith in
+      let d' : d + 1 ≡ suc d = omega arith in
+      ap (joined cell) (up_from_more m (k + t) i (omega arith))
+      ∙ ap (λ z. z ++ joined cell (up_from (k + t) (i + 1))) here
+      ∙ ap (λ z. f s d ++ z) (row s k (d + 1) t (i + 1) (k + t) (omega arith) (omega arith) refl)
+      ∙ ap (λ (x : ℕ). f s d ++ (joined (f s) (up_from k (d + 1)) ++ joined cell (up_from t x))) j
+      ∙ ap (λ (x : ℕ). f s d ++ (joined (f s) (up_from k x) ++ joined cell (up_from t (i + suc k)))) d'
+      ∙ sym (append_assoc (f s d) (joined (f s) (up_from k (suc d))) (joined cell (up_from t (i + suc k))))
+
+  rows : (m s t i : ℕ) → t ≡ m * n → i ≡ s * n → joined cell (up_from t i) ≡ joined (λ s. joined (f s) (below n)) (up_from m s)
+  rows zero s t i p q = ap (joined cell) (up_from_none t i (p ∙ zero-mul n))
+  rows (suc m) s t i p q =
+      let e = suc-mul m n in
+      let g = suc-mul s n in
+      row s n 0 (m * n) i t (omega arith) (omega arith) (omega arith)
+      ∙ ap (λ z. joined (f s) (below n) ++ z) (rows m (suc s) (m * n) (i + n) refl (omega arith))
+
+  grid : joined (λ s. joined (f s) (below n)) (below n) ≡ joined cell (below (n * n))
+  grid = sym (rows n 0 (n * n) 0 refl (sym (zero-mul n)))
 
 module _ (n : ℕ) (f : ℕ → ℕ → ℕ) where
   abbrev byte : ℕ → ℕ → ℕ

@@ -39,14 +39,28 @@ pub fn cell(bytes: &[u8], switches: u8, row: u8, column: u8) -> u8
     bytes.get(at).copied().unwrap_or(NONE)
 }
 
+// The byte of a pair in a table's list; 255 for equal or missing switches.
+// Not `cell`: that the list holds every pair spares a test at each hop.
+#[tactic(auto, using(crate::proofs::Cells::cell_below, crate::proofs::Cells::cell_read))]
+fn stored(bytes: &[u8], switches: u8, row: u8, column: u8) -> u8
+    requires { switches * switches ≤ length bytes.now }
+    ensures { result ≡ (if is_pair switches row column then slice_index_or bytes.now (row * switches + column) 255 else 255) }
+{
+    match Pair::of(switches, u32::from(row), u32::from(column)) {
+        // By row, as the caller's bytes are.
+        Some(pair) => bytes[pair.source as usize * switches as usize + pair.destination as usize],
+        None => NONE,
+    }
+}
+
 impl RouteRule for Table {
     ghost maps = { λ t. table_rule t.switches t.channels.items t.lanes.items };
 
     fn channel(&self, switch: u8, destination: u8) -> Option<u8> {
-        channel_byte(cell(&self.channels, self.switches, switch, destination))
+        channel_byte(stored(&self.channels, self.switches, switch, destination))
     }
 
     fn lane(&self, source: u8, destination: u8) -> u8 {
-        cell(&self.lanes, self.switches, source, destination)
+        stored(&self.lanes, self.switches, source, destination)
     }
 }

@@ -1,6 +1,7 @@
-ghost use Rattle.std.specs.Prelude.{◌≡◌};
+ghost use Rattle.std.specs.Prelude.{◌≡◌, ◌≢◌, ◌<◌, ◌≤◌, ◌+◌, ◌*◌, ◌∷◌};
 ghost use Rattle.std.specs.Iterator.{item_count};
 ghost use Rattle.model.specs.Routes.{pairs_of};
+ghost use Rattle.model.specs.Pairs.{pairs_left};
 ghost use Rattle.fabric.specs.Of.{net};
 ghost use Rattle.fabric.specs.Pairs.{FindsPair, NextPair, left};
 
@@ -24,7 +25,25 @@ impl Fabric {
     {
         Pairs {
             switches: self.switch_count() as u8,
-            cell: 0,
+            source: 0,
+            destination: 1,
+        }
+    }
+}
+
+impl Pairs {
+    // The destination after the next pair's, but for its source; as many as there are switches where there is none.
+    #[tactic(auto, using(crate::proofs::Pairing::pair_more, crate::proofs::Pairing::pair_skip))]
+    fn after(&self) -> u8
+        requires { self.now.source < self.now.switches }
+        ensures left { left self.now ≡ record { source = self.now.source; destination = self.now.destination } ∷ pairs_left self.now.switches (self.now.source * self.now.switches + result) }
+        ensures range { (result ≤ self.now.switches) × (result ≢ self.now.source) }
+    {
+        let after = self.destination + 1;
+        if after == self.source {
+            after + 1
+        } else {
+            after
         }
     }
 }
@@ -38,20 +57,20 @@ impl Iterator for Pairs {
 
     #[tactic(auto, using(crate::proofs::Pairing::pairs_more))]
     fn next(&mut self) -> Option<Pair> {
-        let width = self.switches as u16;
-        // By cells, since the next pair may stand in the middle of a row or at the start of another.
-        for cell in self.cell..width * width {
-            let source = (cell / width) as u8;
-            let destination = (cell % width) as u8;
-            if source != destination {
-                self.cell = cell + 1;
-                return Some(Pair {
-                    source,
-                    destination,
-                });
-            }
+        if self.source >= self.switches {
+            return None;
         }
-        self.cell = width * width;
-        None
+        let next = Pair {
+            source: self.source,
+            destination: self.destination,
+        };
+        let after = self.after();
+        if after < self.switches {
+            self.destination = after;
+        } else {
+            self.source += 1;
+            self.destination = 0;
+        }
+        Some(next)
     }
 }

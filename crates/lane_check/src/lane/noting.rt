@@ -1,22 +1,11 @@
 ghost use Rattle.std.specs.Prelude.{◌≡◌, ℕ, ◌==◌};
 ghost use Rattle.model.specs.Net.{count};
-ghost use Rattle.model.specs.Routes.{route, steps, depends};
+ghost use Rattle.model.specs.Routes.{depends};
 ghost use Rattle.fabric.specs.Of.{net};
 ghost use Rattle.routing.specs.Dependencies.{leads};
-ghost use Rattle.lane_check.specs.Notes.{Noted};
 
 use fabric::{Fabric, Pair};
-use routing::{Dependencies, RouteRule, Steps};
-
-// Adds the dependencies of the route of a pair.
-fn note_route<R: RouteRule>(fabric: &Fabric, rule: &R, pair: Pair, lane: &mut Dependencies)
-    requires { lane.old.channels ≡ count (net fabric.now) }
-    ensures { Noted (steps (route (net fabric.now) (R.maps rule.now) pair.source pair.destination)) lane.old lane.new }
-{
-    for step in Steps::of(fabric, rule, pair) {
-        lane.add(step);
-    }
-}
+use routing::{Dependencies, RouteRule};
 
 // Whether a pair is of the lane.
 fn is_of_lane<R: RouteRule>(rule: &R, lane: u32, pair: Pair) -> bool
@@ -33,7 +22,7 @@ pub fn dependencies<R: RouteRule>(fabric: &Fabric, rule: &R, lane: u32) -> Depen
     let mut found = Dependencies::none(fabric);
     for pair in fabric.pairs() {
         if is_of_lane(rule, lane, pair) {
-            note_route(fabric, rule, pair, &mut found);
+            found.add_route(fabric, rule, pair);
         }
     }
     found

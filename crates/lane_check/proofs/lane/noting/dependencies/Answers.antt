@@ -11,8 +11,8 @@ loop-pair-preserved-then-is_of_lane g c =
     let M = g.R.RouteRule.maps c.args.rule.now in
     let i = c.loop-pair.invariant in
     record {
-      size = c.note_route.ensures.size ∙ i.size;
-      adding = adding_pair N M c.args.lane c.none-found.result c.loop-pair.found c.note_route.new.lane (lane_deps N M c.args.lane)
+      size = c.add_route.ensures.size ∙ i.size;
+      adding = adding_pair N M c.args.lane c.none-found.result c.loop-pair.found c.add_route.new.self (lane_deps N M c.args.lane)
           (left c.loop-pair.pair-iterator) (left c.next.new.self) (plain_pair c.in-Some.pair) c.in-Some.ensures.steps.1
-          c.if-is_of_lane.ensures c.note_route.ensures i.adding;
+          c.if-is_of_lane.ensures (c.add_route.ensures.adds i.size) i.adding;
     }

@@ -3,7 +3,8 @@ use Rattle.model.specs.Net.{count}
 use Rattle.model.specs.Routes.{lane_deps}
 use Rattle.fabric.specs.Of.{net}
 use Rattle.fabric.specs.Pairs.{left}
-use Rattle.lane_check.proofs.Adding.{Adding, deps_of}
+use Rattle.routing.proofs.Adding.{Adding}
+use Rattle.lane_check.proofs.Adding.{deps_of}
 use Rattle.lane_check.proofs.lane.noting.dependencies.Given as goal
 
 abbrev pub invariant-loop-pair : goal.invariant-loop-pair
